@@ -1,0 +1,50 @@
+-- 01, "Stages": the samples of each of the stages 1 to 9, and T, their sum, for d digits at the rate r.
+use Prim.Native.Nat.{ℕ, zero, suc, _+_}
+use mathlib.Core.Bool.{Bool, true, false}
+use lib.Dec.{leb}
+use lib.Ieee.{Float}
+use Rattle.math.specs.Float.{f64, ofNat, one}
+use Rattle.schedule.specs.Time.{timeAt, samplesIn}
+use Rattle.schedule.specs.Dialling.{digitAt}
+use Rattle.schedule.specs.Symbols.{symbolStep, doneAfter}
+
+-- 0.05, 4, 3 and 0.075 seconds
+abbrev pub clickTime : Float
+clickTime = f64 0x3fa9_9999_9999_999a
+
+abbrev pub ringbackTime : Float
+ringbackTime = ofNat 4
+
+abbrev pub ansamTime : Float
+ansamTime = ofNat 3
+
+abbrev pub cjSilence : Float
+cjSilence = f64 0x3fb3_3333_3333_3333
+
+-- the first number from n on at which p holds, among k of them; b is p at n
+unfoldable pub firstFrom : (ℕ → Bool) → ℕ → Bool → ℕ → ℕ
+firstFrom p zero b n = n
+firstFrom p (suc k) true n = n
+firstFrom p (suc k) false n = firstFrom p k (p (suc n)) (suc n)
+
+-- the samples of N bits: the first n at which all are done
+unfoldable pub bitsLength : ℕ → ℕ → ℕ
+bitsLength r N = firstFrom (λ n. leb N (doneAfter (symbolStep r) n)) 1000000 (leb N (doneAfter (symbolStep r) 1)) 1
+
+-- the samples of d digits: the first n at which i >= d, and 1 where there are none
+unfoldable pub diallingLength : ℕ → ℕ → ℕ
+diallingLength r zero = 1
+diallingLength r (suc d) = firstFrom (λ n. leb (suc d) (digitAt (timeAt r n))) 4000000 (leb (suc d) (digitAt (timeAt r 1))) 1
+
+-- T
+unfoldable pub total : ℕ → ℕ → ℕ
+total r d =
+    samplesIn clickTime r
+    + samplesIn one r
+    + diallingLength r d
+    + samplesIn ringbackTime r
+    + bitsLength r 60
+    + samplesIn ansamTime r
+    + bitsLength r 80
+    + (bitsLength r 60 + samplesIn cjSilence r)
+    + bitsLength r 300

@@ -1,0 +1,23 @@
+-- 01, "Stages": r is the rate, n the stage's samples so far, t = n / r, R(s) = s × r rounded half away.
+use Prim.Native.Nat.{ℕ, _+_}
+use mathlib.Core.Bool.{Bool, true, false}
+use lib.Dec.{ltb}
+use lib.Ieee.{Float}
+use Rattle.math.specs.Float.{ofNat, times, over}
+use Rattle.math.specs.Whole.{roundOf}
+
+-- t, of r and n
+abbrev pub timeAt : ℕ → ℕ → Float
+timeAt r n = over (ofNat n) (ofNat r)
+
+-- R(s), of s and r
+unfoldable pub samplesIn : Float → ℕ → ℕ
+samplesIn s r = roundOf (times s (ofNat r))
+
+-- n + 1. A count has 32 bits: the largest stays, which no sound set holds.
+abbrev pub countUp : Bool → ℕ → ℕ
+countUp true n = n + 1
+countUp false n = n
+
+unfoldable pub oneMore : ℕ → ℕ
+oneMore n = countUp (ltb n 0xffff_ffff) n
