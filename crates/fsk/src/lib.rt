@@ -1,0 +1,82 @@
+// A bit modulator for V.21's low channel. The first bit's tone is set before its first sample,
+// so a payload's bits take just their symbol periods. The bits themselves are no part of the
+// channel: it holds how many are done, and its caller names the payload.
+use nco::Nco;
+ghost use mathlib.Core.Path.{_≡_};
+ghost use Rattle.fsk.specs.Channel.{toneOf, freshChannel, channelSample, nextChannel};
+
+const V21_LOW_MARK: f64 = 980.0;
+
+const V21_LOW_SPACE: f64 = 1180.0;
+
+const FSK_AMPLITUDE: f64 = 0.7;
+
+pub struct FskChannel {
+    pub nco: Nco,
+    pub done: u32,
+    pub phase: f64,
+    pub step: f64,
+}
+
+// One sample, and the channel after it.
+pub struct Keyed {
+    pub sample: f64,
+    pub fsk: FskChannel,
+}
+
+fn tone(bit: bool) -> f64
+    ensures { λ r. ⌜ r ≡ toneOf bit ⌝ }
+{
+    if bit {
+        return V21_LOW_MARK;
+    }
+    V21_LOW_SPACE
+}
+
+impl FskChannel {
+    pub fn new(payload: &[u8], rate: u32) -> FskChannel
+        ensures { λ r. ⌜ r ≡ freshChannel (now (payload .entry)) rate ⌝ }
+    {
+        let first = frame::payload_bit(payload, 0);
+        let nco = Nco::new(tone(first), rate as f64);
+        FskChannel {
+            nco,
+            done: 0,
+            phase: 0.0,
+            step: schedule::symbol_step(rate),
+        }
+    }
+
+    pub fn next_sample(self, payload: &[u8]) -> Keyed
+        ensures { λ r. ⌜ (r .sample ≡ channelSample self) × (r .fsk ≡ nextChannel self (now (payload .entry))) ⌝ }
+    {
+        let nco = self.nco;
+        let s = nco.next();
+        let moved = s.nco;
+        let sample = s.sample * FSK_AMPLITUDE;
+        let t = schedule::tick(self.phase, self.step);
+        if t.done {
+            let k = schedule::one_more(self.done);
+            let bit = frame::payload_bit(payload, k as usize);
+            let tuned = moved.set_freq(tone(bit));
+            return Keyed {
+                sample,
+                fsk: FskChannel {
+                    nco: tuned,
+                    done: k,
+                    phase: t.phase,
+                    step: self.step,
+                },
+            };
+        }
+        Keyed {
+            sample,
+            fsk: FskChannel {
+                nco: moved,
+                done: self.done,
+                phase: t.phase,
+                step: self.step,
+            },
+        }
+    }
+}

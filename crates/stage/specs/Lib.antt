@@ -1,0 +1,4 @@
+pub mod Stage
+pub mod Samples
+pub mod Enter
+pub mod Next

@@ -1,0 +1,44 @@
+-- 01, "Stages": the ten stages, by number, and their order.
+use Prim.Native.Nat.{ℕ}
+use Rattle.stage.specs.declared.Stage.{Stage}
+use Rattle.stage.specs.declared.Stage.the-variants as stage
+use Rattle.stage.specs.declared.StageState.{StageState}
+use Rattle.stage.specs.declared.StageState.the-variants.{OffHook, DialTone, Dialling, Ringback, Ci, Ansam, CmJm, Cj, Training, Connected}
+
+unfoldable pub stageNumber : Stage → ℕ
+stageNumber stage.OffHook = 1
+stageNumber stage.DialTone = 2
+stageNumber stage.Dialling = 3
+stageNumber stage.Ringback = 4
+stageNumber stage.Ci = 5
+stageNumber stage.Ansam = 6
+stageNumber stage.CmJm = 7
+stageNumber stage.Cj = 8
+stageNumber stage.Training = 9
+stageNumber stage.Connected = 10
+
+-- the stage that follows; Connected has no end
+unfoldable pub nextStage : Stage → Stage
+nextStage stage.OffHook = stage.DialTone
+nextStage stage.DialTone = stage.Dialling
+nextStage stage.Dialling = stage.Ringback
+nextStage stage.Ringback = stage.Ci
+nextStage stage.Ci = stage.Ansam
+nextStage stage.Ansam = stage.CmJm
+nextStage stage.CmJm = stage.Cj
+nextStage stage.Cj = stage.Training
+nextStage stage.Training = stage.Connected
+nextStage stage.Connected = stage.Connected
+
+-- the stage of a state's next sample
+unfoldable pub stageOf : StageState → Stage
+stageOf (OffHook rng n) = stage.OffHook
+stageOf (DialTone a b n) = stage.DialTone
+stageOf (Dialling i on a b n) = stage.Dialling
+stageOf (Ringback a b n ring) = stage.Ringback
+stageOf (Ci f) = stage.Ci
+stageOf (Ansam c e n) = stage.Ansam
+stageOf (CmJm f) = stage.CmJm
+stageOf (Cj f z) = stage.Cj
+stageOf (Training f) = stage.Training
+stageOf Connected = stage.Connected
