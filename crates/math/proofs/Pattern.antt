@@ -35,9 +35,6 @@ over p k z P e = omega arith
 over1 : (p k z : ℕ) → 0 < p → z ≡ suc (p + k) → z - p ≡ suc k
 over1 p k z P e = omega arith
 
-suc-pred : (p : ℕ) → 0 < p → suc (p - 1) ≡ p
-suc-pred p P = omega arith
-
 prec-pos : (f : Format) → 0 < prec f
 prec-pos binary32 = lit≤ tt
 prec-pos binary64 = lit≤ tt
