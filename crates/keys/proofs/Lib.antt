@@ -1,0 +1,2 @@
+pub mod Keypad
+pub mod Line

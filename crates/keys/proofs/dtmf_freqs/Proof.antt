@@ -1,0 +1,48 @@
+-- `dtmf_freqs` meets its contract: row and column are the definition's, and the constants are their frequencies.
+-- Assumes nothing.
+use Prim.Native.Nat.{_/_, _%_, _<_, _≤_}
+use mathlib.Core.Path.{ap₂}
+use lib.Ieee.{ofInt, ofBits}
+use native.Mathlib.Omega.{arith}
+use borrow.Author.Needs.{needs}
+use borrow.Author.Tests.{lt-ltb, le-ltb}
+use Rattle.keys.specs.declared.Tones.the-variants.{Key}
+use Rattle.keys.specs.Keys.{rows, columns, isKey, tonesOf}
+use Rattle.keys.proofs.Keypad.{tone-at}
+use Rattle.keys.proofs.dtmf_freqs.Statement.{statement}
+use Rattle.keys.proofs.dtmf_freqs.Tie as tie
+
+key-place-requires : tie.Need-key-place-requires
+key-place-requires c κs = search needs
+
+mul-low : tie.Need-mul-low
+mul-low c = search needs
+
+array-read-low : tie.Need-array-read-low
+array-read-low c = search needs
+
+mul-high : tie.Need-mul-high
+mul-high c = search needs
+
+array-read-high : tie.Need-array-read-high
+array-read-high c = search needs
+
+returns : tie.Need-returns
+unfolding tonesOf isKey ofInt ofBits
+returns c =
+    let place = c .before .key-place in
+    let row : place .result / 4 < 4 = omega arith in
+    let column : place .result % 4 < 4 = omega arith in
+    rw (← place .ensures .0, ← place .ensures .1, lt-ltb _ _ row) (ap₂ Key (tone-at rows _ row) (tone-at columns _ column))
+
+returns-2 : tie.Need-returns-2
+unfolding tonesOf isKey
+returns-2 c =
+    let place = c .before .key-place in
+    let row : 4 ≤ place .result / 4 = omega arith in
+    rw (← place .ensures .0, le-ltb _ _ row)
+
+pub dtmf-freqs-spec : {M : Type 1} → statement M
+dtmf-freqs-spec =
+    tie.close
+    (tie.spec key-place-requires mul-low array-read-low mul-high array-read-high returns returns-2)

@@ -1,0 +1,92 @@
+-- 01, "Keys and frames": Q.23's keypad with the two tones of each key, and the digits of a dial line.
+use Prim.Native.Nat.{ℕ, suc, _-_}
+use mathlib.Core.Bool.{Bool, true, false, cond, _&&_, _||_}
+use mathlib.Core.List.{List, [], _∷_, _++_, map}
+use lib.Dec.{eqb, leb, ltb}
+use lib.Ieee.{Float, binary64, ofInt}
+use lib.IntN.{pos}
+use lib.ListN.{length, getD, take, replicate}
+use Rattle.keys.specs.declared.Tones.{Tones}
+use Rattle.keys.specs.declared.Tones.the-variants.{Key, NoKey}
+use Rattle.keys.specs.declared.Digits.{Digits}
+
+-- rows 697, 770, 852, 941 Hz
+abbrev pub rows : List ℕ
+rows = 697 ∷ 770 ∷ 852 ∷ 941 ∷ []
+
+-- columns 1209, 1336, 1477, 1633
+abbrev pub columns : List ℕ
+columns = 1209 ∷ 1336 ∷ 1477 ∷ 1633 ∷ []
+
+-- keys 123A, 456B, 789C, *0#D
+abbrev pub keypad : List (List ℕ)
+keypad =
+    (49 ∷ 50 ∷ 51 ∷ 65 ∷ [])
+    ∷ (52 ∷ 53 ∷ 54 ∷ 66 ∷ [])
+    ∷ (55 ∷ 56 ∷ 57 ∷ 67 ∷ [])
+    ∷ (42 ∷ 48 ∷ 35 ∷ 68 ∷ [])
+    ∷ []
+
+-- whether a byte is among the keys of a row
+abbrev pub isIn : ℕ → List ℕ → Bool
+isIn b [] = false
+isIn b (k ∷ ks) = eqb b k || isIn b ks
+
+-- the first row that has the byte, counted from 0; the number of rows if none has
+abbrev pub rowIn : ℕ → List (List ℕ) → ℕ
+rowIn b [] = 0
+rowIn b (ks ∷ rest) = cond (isIn b ks) 0 (suc (rowIn b rest))
+
+-- the first place of the byte in a row, counted from 0
+abbrev pub columnIn : ℕ → List ℕ → ℕ
+columnIn b [] = 0
+columnIn b (k ∷ ks) = cond (eqb b k) 0 (suc (columnIn b ks))
+
+unfoldable pub keyRow : ℕ → ℕ
+keyRow b = rowIn b keypad
+
+unfoldable pub keyColumn : ℕ → ℕ
+keyColumn b = columnIn b (getD keypad (rowIn b keypad) [])
+
+unfoldable pub isKey : ℕ → Bool
+isKey b = ltb (keyRow b) (length keypad)
+
+-- a frequency as a number of the code
+abbrev pub hertz : ℕ → Float
+hertz n = ofInt binary64 (pos n)
+
+abbrev pub tonesAt : Bool → ℕ → ℕ → Tones
+tonesAt true row column = Key (hertz (getD rows row 0)) (hertz (getD columns column 0))
+tonesAt false row column = NoKey
+
+-- a key's tones are those of its row and its column
+unfoldable pub tonesOf : ℕ → Tones
+tonesOf b = tonesAt (isKey b) (keyRow b) (keyColumn b)
+
+-- ASCII's a to z become A to Z
+unfoldable pub upper : ℕ → ℕ
+upper b = cond (leb 97 b && leb b 122) (b - 32) b
+
+-- the keys among the bytes, others dropped
+unfoldable pub keysOf : List ℕ → List ℕ
+keysOf [] = []
+keysOf (b ∷ bs) = cond (isKey b) (b ∷ keysOf bs) (keysOf bs)
+
+-- digits are the line's bytes after ATDT, uppercased, others dropped
+unfoldable pub digitsOf : List ℕ → List ℕ
+digitsOf line = keysOf (map upper line)
+
+unfoldable pub allKeys : List ℕ → Bool
+allKeys [] = true
+allKeys (b ∷ bs) = isKey b && allKeys bs
+
+-- 76 places, zeros behind the digits
+unfoldable pub padded : List ℕ → List ℕ
+padded ds = ds ++ replicate (76 - length ds) 0
+
+abbrev pub held : List ℕ → Digits
+held ds = record { keys = padded ds; len = length ds }
+
+-- their number is at most 76
+abbrev pub dialledOf : List ℕ → Digits
+dialledOf line = held (take 76 (digitsOf line))

@@ -1,0 +1,104 @@
+// The keypad of Q.23, and the digits of a dial line.
+ghost use mathlib.Core.Path.{_≡_};
+ghost use Prim.Native.Nat.{_/_, _%_};
+ghost use Rattle.keys.specs.Keys.{keyRow, keyColumn, isKey, tonesOf, upper, allKeys, dialledOf};
+
+const ROWS: [f64; 4] = [697.0, 770.0, 852.0, 941.0];
+
+const COLS: [f64; 4] = [1209.0, 1336.0, 1477.0, 1633.0];
+
+// The two frequencies of a key, its row's and its column's.
+pub enum Tones {
+    Key { low: f64, high: f64 },
+    NoKey,
+}
+
+// The digits of a call: the first `len` bytes, and zeros behind them.
+pub struct Digits {
+    pub keys: [u8; 76],
+    pub len: usize,
+}
+
+// Where a key stands on the keypad, counted row by row, four to a row; 16 for a byte that is no key.
+fn key_place(b: u8) -> usize
+    ensures { λ r. ⌜ (r / 4 ≡ keyRow b) × (r % 4 ≡ keyColumn b) ⌝ }
+{
+    match b {
+        b'1' => 0,
+        b'2' => 1,
+        b'3' => 2,
+        b'A' => 3,
+        b'4' => 4,
+        b'5' => 5,
+        b'6' => 6,
+        b'B' => 7,
+        b'7' => 8,
+        b'8' => 9,
+        b'9' => 10,
+        b'C' => 11,
+        b'*' => 12,
+        b'0' => 13,
+        b'#' => 14,
+        b'D' => 15,
+        _ => 16,
+    }
+}
+
+pub fn is_key(b: u8) -> bool
+    ensures { λ r. ⌜ r ≡ isKey b ⌝ }
+{
+    key_place(b) < 16
+}
+
+pub fn dtmf_freqs(b: u8) -> Tones
+    ensures { λ r. ⌜ r ≡ tonesOf b ⌝ }
+{
+    let place = key_place(b);
+    if place < 16 {
+        let low = ROWS[place / 4];
+        let high = COLS[place % 4];
+        return Tones::Key { low, high };
+    }
+    Tones::NoKey
+}
+
+pub fn uppercase(b: u8) -> u8
+    ensures { λ r. ⌜ r ≡ upper b ⌝ }
+{
+    match b {
+        b'a'..=b'z' => b - 32,
+        _ => b,
+    }
+}
+
+// The digits of a dial line's bytes after ATDT: uppercased, others dropped, order kept. A line has no more than 76 such bytes.
+pub fn dialled(line: &[u8]) -> Digits
+    ensures { λ r. ⌜ r ≡ dialledOf (now (line .entry)) ⌝ }
+{
+    let mut keys = [0u8; 76];
+    let mut len: usize = 0;
+    let mut i: usize = 0;
+    while i < line.len() {
+        let b = uppercase(line[i]);
+        i += 1;
+        if is_key(b) {
+            if len < 76 {
+                keys[len] = b;
+                len += 1;
+            }
+        }
+    }
+    Digits { keys, len }
+}
+
+pub fn all_keys(digits: &[u8]) -> bool
+    ensures { λ r. ⌜ r ≡ allKeys (now (digits .entry)) ⌝ }
+{
+    let mut all = true;
+    let mut i: usize = 0;
+    while i < digits.len() {
+        all = all & is_key(digits[i]);
+        i += 1;
+    }
+    all
+}
