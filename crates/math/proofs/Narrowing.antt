@@ -22,7 +22,7 @@ use Rattle.math.specs.Narrow.{narrowed}
 use Rattle.math.specs.Steps.{narrowBits}
 use Rattle.math.proofs.Tests.{Compared, compared, closest-down, closest-tie, closest-up}
 use Rattle.math.proofs.Values.{below-same}
-use Rattle.math.proofs.Pattern.{pattern, size-is, magnitude, significand-lo, significand-hi, fields-value, ones-are, by-fields, is-nan}
+use Rattle.math.proofs.Pattern.{pattern, none-left, size-is, magnitude, significand-lo, significand-hi, fields-value, ones-are, by-fields, is-nan}
 
 -- ---- `round binary32` of w / c, where the digits that it drops are known
 kept-at : (s : Bool) (w c k q : ℕ) → size (w * 2 ^ 149 / c) - 24 ≡ k → closest (w * 2 ^ 149) (c * 2 ^ k) ≡ q → round binary32 s w c ≡ units binary32 s q k
@@ -57,9 +57,6 @@ normal s g j lo hi =
     step j = omega arith
 
 -- subnormal results: the value is g / 2 ^ (149 + i), with i at least 30
-none-left : (z : ℕ) → z ≤ 24 → z - 24 ≡ 0
-none-left z h = omega arith
-
 below-one : (s : Bool) (g i : ℕ) → g < 2 ^ (24 + i) → round binary32 s g (2 ^ (149 + i)) ≡ units binary32 s (closest g (2 ^ i)) 0
 below-one s g i h =
     let n = g * 2 ^ 149 in
@@ -67,7 +64,7 @@ below-one s g i h =
     let b : n < 2 ^ 24 * c =
     subst (λ (z : ℕ). n < z) (sym (pow-add 2 (24 + i) 149) ∙ ap (λ (z : ℕ). 2 ^ z) (turn i) ∙ pow-add 2 24 (149 + i)) (mul-lt-mul-of-pos-right h (pow-pos 149)) in
     kept-at s g c 0 (closest g (2 ^ i))
-    (none-left (size (n / c)) (size-le (n / c) 24 (div-lt-iff-lt-mul (pow-pos (149 + i)) .1 b)))
+    (none-left (size (n / c)) 24 (size-le (n / c) 24 (div-lt-iff-lt-mul (pow-pos (149 + i)) .1 b)))
     (closest-same n (c * 2 ^ 0) g (2 ^ i) (mul-pos (pow-pos (149 + i)) (pow-pos 0)) (pow-pos i)
     (mul-assoc g (2 ^ 149) (2 ^ i) ∙ ap (λ (z : ℕ). g * z) (sym (pow-add 2 149 i) ∙ sym (mul-one c))))
   where
@@ -114,12 +111,12 @@ back s w q k e h c l =
 digits-lo : (g : ℕ) → 2 ^ 52 ≤ g → 2 ^ 23 ≤ closest g (2 ^ 29)
 digits-lo g h = le-trans (le-div-iff-mul-le (pow-pos 29) .1 h) (nearest-ge (g / 2 ^ 29) (compare (g % 2 ^ 29 * 2) (2 ^ 29)))
 
-pub digits-hi : (g i : ℕ) → g < 2 ^ (24 + i) → closest g (2 ^ i) ≤ 2 ^ 24
+digits-hi : (g i : ℕ) → g < 2 ^ (24 + i) → closest g (2 ^ i) ≤ 2 ^ 24
 digits-hi g i h =
     le-trans (nearest-le (g / 2 ^ i) (compare (g % 2 ^ i * 2) (2 ^ i)))
     (div-lt-iff-lt-mul (pow-pos i) .1 (subst (λ (z : ℕ). g < z) (pow-add 2 24 i) h))
 
-pub narrowBits-is : (s : Bool) (e t : ℕ) → e < 1024 → t < 2 ^ 52 → ofBits binary32 (cond s (2 ^ 31) 0 + narrowBits e t) ≡ round binary32 s (magnitude e t) (2 ^ 1074)
+narrowBits-is : (s : Bool) (e t : ℕ) → e < 1024 → t < 2 ^ 52 → ofBits binary32 (cond s (2 ^ 31) 0 + narrowBits e t) ≡ round binary32 s (magnitude e t) (2 ^ 1074)
 unfolding narrowBits
 narrowBits-is s zero t E H = back s t 0 0 (to-none s t (lt-of-lt-of-le H (lit≤ tt))) (lit≤ tt) (inl refl) (lit≤ tt)
 narrowBits-is s (suc x) t E H = go (leb 897 (suc x)) (leb→le 897 (suc x)) (nleb→lt 897 (suc x)) (leb 873 (suc x)) (leb→le 873 (suc x)) (nleb→lt 873 (suc x))

@@ -26,7 +26,7 @@ unsigned f n = (size n - prec f) * hid f + n / 2 ^ (size n - prec f)
 unsigned-by : (f : Format) (n k q : ℕ) → size n - prec f ≡ k → n / 2 ^ k ≡ q → unsigned f n ≡ k * hid f + q
 unsigned-by f n k q e d = ap (λ (z : ℕ). z * hid f + n / 2 ^ z) e ∙ ap (λ (z : ℕ). k * hid f + z) d
 
-none-left : (z p : ℕ) → z ≤ p → z - p ≡ 0
+pub none-left : (z p : ℕ) → z ≤ p → z - p ≡ 0
 none-left z p h = omega arith
 
 over : (p k z : ℕ) → 0 < p → z ≡ suc (p - 1 + k) → z - p ≡ k
