@@ -37,9 +37,10 @@ returns : tie.Need-returns
 unfolding nextChannel
 returns c =
     let tick = c .before .before .before .before .before in
-    let next = tick .before .before .before in
-    (rw (next .next .ensures .0),
-    rw (← tick .tick .ensures .1, c .before .before .before .before .if1 .taken, c .set-freq .ensures, c .before .tone .ensures, c .before .before .payload-bit .ensures, c .before .before .before .one-more .ensures, next .next .ensures .1, tick .tick .ensures .0))
+    let next = tick .before .before .before in (
+      rw (next .next .ensures .0),
+      rw (← tick .tick .ensures .1, c .before .before .before .before .if1 .taken, c .set-freq .ensures, c .before .tone .ensures, c .before .before .payload-bit .ensures, c .before .before .before .one-more .ensures, next .next .ensures .1, tick .tick .ensures .0),
+    )
 
 returns-2 : tie.Need-returns-2
 unfolding nextChannel

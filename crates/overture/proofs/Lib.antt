@@ -1,0 +1,4 @@
+pub mod Iteration
+pub mod Writing
+pub mod Bits
+pub mod Sending
