@@ -4,3 +4,6 @@ pub mod Values
 pub mod Pattern
 pub mod Narrowing
 pub mod Whole
+pub mod Bounds
+pub mod Wrapping
+pub mod Constants

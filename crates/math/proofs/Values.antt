@@ -6,16 +6,29 @@ use Prim.Native.Nat.{ℕ, zero, suc, _+_, _-_, _*_, _/_, _%_, _^_, _≤_, _<_}
 use native.Mathlib.Nat.{le-trans, le-of-eq, le-of-lt, not-le-of-lt, lt-of-not-le, add-mul, mul-sub, mul-assoc, mul-comm, mul-left-comm, mul-right-comm, mul-pos, mul-le-mul-right, le-of-mul-le-mul-right, eq-of-mul-eq-mul-right, zero-mul, mul-mul-mul-comm}
 use native.Mathlib.Omega.{arith}
 use lib.Dec.{T, leb, ltb, eqb, ltb→lt, lt→ltb, eqb→eq, leb→le, le→leb}
-use lib.Ieee.{Float, nan, inf, fin, Format, up, down, round, sum, add, sub, mul, div, le, lt}
+use lib.Ieee.{Float, nan, inf, fin, Format, binary64, up, down, round, add, sub, mul, div, le, lt, ofInt, ofBits}
 use lib.Ieee.Bits.{is-true, is-false}
 use lib.Ieee.Fits.{up-pos, down-pos, and-l}
 use lib.Ieee.Exact.{HasValue}
 use lib.Ieee.Order.{transfer, le-of-values}
 use lib.Ieee.Scale.{round-same}
 use lib.Ieee.Positive.{first-pos}
+use lib.Ieee.Back.{round-whole}
 use borrow.Author.Tests.{le-ltb}
+use Rattle.math.specs.Float as float
+use Rattle.math.specs.Float.{ofNat}
 use Rattle.math.proofs.Tests.{same-test}
 
+-- ---- values
+pub zero-value : (c : ℕ) → HasValue float.zero false 0 c
+unfolding ofBits
+zero-value c = (refl, zero-mul c)
+
+pub nat-value : (n : ℕ) → n ≤ 2 ^ 53 → HasValue (ofNat n) false n 1
+unfolding ofInt
+nat-value n h = round-whole binary64 false n h
+
+-- ---- operations
 -- (x * dd) * c is a * (de * dd)
 side : (x de dd a c : ℕ) → x * c ≡ a * de → x * dd * c ≡ a * (de * dd)
 side x de dd a c h = mul-right-comm x dd c ∙ ap (λ (z : ℕ). z * dd) h ∙ mul-assoc a de dd

@@ -1,0 +1,62 @@
+// A numerically controlled oscillator. Its phase runs on when the frequency changes, so a change makes no click.
+ghost use mathlib.Core.Path.{_≡_};
+ghost use Rattle.nco.specs.Nco.{advanced, freshNco, retuned, sampleOf, steppedNco};
+
+const TAU: f64 = 6.283185307179586;
+
+pub struct Nco {
+    pub phase: f64,
+    pub step: f64,
+    pub rate: f64,
+}
+
+// A sample, and the oscillator after it.
+pub struct Stepped {
+    pub sample: f64,
+    pub nco: Nco,
+}
+
+// The phase after one sample.
+pub fn advance(phase: f64, step: f64) -> f64
+    ensures { λ r. ⌜ r ≡ advanced step phase ⌝ }
+{
+    let x = phase + step;
+    if x >= TAU { x - TAU } else { x }
+}
+
+impl Nco {
+    pub fn new(freq: f64, rate: f64) -> Nco
+        ensures { λ r. ⌜ r ≡ freshNco freq rate ⌝ }
+    {
+        Nco {
+            phase: 0.0,
+            step: (TAU * freq) / rate,
+            rate,
+        }
+    }
+
+    pub fn set_freq(self, freq: f64) -> Nco
+        ensures { λ r. ⌜ r ≡ retuned self freq ⌝ }
+    {
+        Nco {
+            phase: self.phase,
+            step: (TAU * freq) / self.rate,
+            rate: self.rate,
+        }
+    }
+
+    pub fn next(self) -> Stepped
+        ensures { λ r. ⌜ (r .sample ≡ sampleOf self) × (r .nco ≡ steppedNco self) ⌝ }
+    {
+        let v = math::sin(self.phase);
+        let p = advance(self.phase, self.step);
+        Stepped {
+            sample: v,
+            nco: Nco {
+                phase: p,
+                step: self.step,
+                rate: self.rate,
+            },
+        }
+    }
+}
