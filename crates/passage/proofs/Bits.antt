@@ -5,7 +5,6 @@ use mathlib.Core.Bool.{Bool, true, false}
 use mathlib.Core.List.{List}
 use Prim.Native.Nat.{ℕ, zero, suc, _+_, _≤_, _<_}
 use native.Mathlib.Nat.{le-refl, le-trans, le-of-lt, le-suc, lt-of-le-of-lt, suc-le-suc-iff}
-use native.Mathlib.Numerals.{add-one}
 use lib.Dec.{leb, lit<, lit≤}
 use lib.Ieee.{Float}
 use borrow.Author.Tests.{le-leb, lt-leb}
@@ -13,7 +12,6 @@ use Rattle.frame.specs.Frame.{ciPayload, cmJmPayload, cjPayload, trainingPayloa
 use Rattle.schedule.specs.Time.{samplesIn}
 use Rattle.schedule.specs.Symbols.{symbolStep, symbolEnds, nextPhase, phaseAfter, doneBy, doneAfter}
 use Rattle.schedule.specs.Length.{cjSilence, bitsLength}
-use Rattle.schedule.proofs.Count.{one-more-is}
 use Rattle.schedule.proofs.Lengths.{bitsAfter, bits-end, bits-before, bits-range, silence-range}
 use Rattle.fsk.specs.declared.FskChannel.{FskChannel}
 use Rattle.fsk.specs.Channel.{freshChannel, doneNext, nextChannel}
@@ -27,7 +25,7 @@ use Rattle.stage.specs.Next.{ciOf, cmJmOf, cjAt, cjOf, trainingOf, generateOf, 
 use Rattle.overture.specs.Iteration.{after}
 use Rattle.overture.proofs.Iteration.{after-suc}
 use Rattle.passage.proofs.Lasting.{Lasts, Passes, Course, then-lasts, passes}
-use Rattle.passage.proofs.Counted.{counted}
+use Rattle.passage.proofs.Counted.{one-more, counted}
 
 -- ---- the channel
 -- after n samples of a payload
@@ -67,7 +65,7 @@ module _ (payload : List ℕ) (r : ℕ) where
       ∙ go (symbolEnds s (phaseAfter s n)) (doneAfter s n) (lt-of-le-of-lt (done-most s n) l)
     where
       go : (b : Bool) (k : ℕ) → k < 0xffff_ffff → doneNext b k ≡ doneBy b k
-      go true k h = one-more-is k h ∙ add-one k
+      go true k h = one-more 0xffff_ffff (le-refl _) k h
       go false k h = refl
 
 -- a state that is the payload's channel after j samples

@@ -25,6 +25,10 @@ use Rattle.stage.specs.Enter.{enterOf}
 use Rattle.stage.specs.Next.{offHookOf, soundedOf, dialToneOf, ringbackOf, answerOf, ansamOf, generateOf}
 use Rattle.passage.proofs.Lasting.{Passes, Course, passes}
 
+-- one more of a count that no stage's length lets run to the largest
+pub one-more : (L : ℕ) → L ≤ 0xffff_ffff → (n : ℕ) → n < L → oneMore n ≡ suc n
+one-more L most n l = one-more-is n (lt-of-lt-of-le l most) ∙ add-one n
+
 -- a state whose count is j
 abbrev pub Counts : {X : Type 0} → (X → ℕ → StageState) → ℕ → StageState → Type 0
 Counts {X} state j s = (x : X) × (s ≡ state x j)
@@ -34,14 +38,11 @@ module _ (digits : List ℕ) (r : ℕ) (k : Stage) (L : ℕ) (some : 1 ≤ L) (m
     (named : (x : X) (n : ℕ) → stageOf (state x n) ≡ k)
     (moves : (x : X) (n : ℕ) → generateOf (state x n) digits r .state ≡ state (moved x n) (oneMore n))
     (finishes : (x : X) (n : ℕ) → generateOf (state x n) digits r .finished ≡ leb L (oneMore n)) where
-  one-more : (j : ℕ) → j < L → oneMore j ≡ suc j
-  one-more j l = one-more-is j (lt-of-lt-of-le l most) ∙ add-one j
-
   course : Course digits r k (Counts state) (λ n. n) L L
   course = record {
     named = λ j s a. ap stageOf (a .1) ∙ named (a .0) j;
-    moves = λ j s a l. (moved (a .0) j, ap (λ (t : StageState). generateOf t digits r .state) (a .1) ∙ moves (a .0) j ∙ ap (state (moved (a .0) j)) (one-more j (le-of-lt l)));
-    finishes = λ j s a l. ap (λ (t : StageState). generateOf t digits r .finished) (a .1) ∙ finishes (a .0) j ∙ ap (leb L) (one-more j l);
+    moves = λ j s a l. (moved (a .0) j, ap (λ (t : StageState). generateOf t digits r .state) (a .1) ∙ moves (a .0) j ∙ ap (state (moved (a .0) j)) (one-more L most j (le-of-lt l)));
+    finishes = λ j s a l. ap (λ (t : StageState). generateOf t digits r .finished) (a .1) ∙ finishes (a .0) j ∙ ap (leb L) (one-more L most j l);
   }
 
   pub counted : (x : X) → Passes digits r (state x 0) k (Counts state) L (enterOf (nextStage k) digits r)

@@ -4,8 +4,7 @@ use mathlib.Core.Path.{_≡_, refl, sym, ap, subst, _∙_}
 use mathlib.Core.Bool.{Bool, true, false, _&&_, Bool·beq, true≢false}
 use mathlib.Core.List.{List, [], _∷_}
 use Prim.Native.Nat.{ℕ, zero, suc, _≤_, _<_}
-use native.Mathlib.Nat.{le-trans, le-of-lt, lt-of-lt-of-le, zero-lt-suc, zero-mul}
-use native.Mathlib.Numerals.{add-one}
+use native.Mathlib.Nat.{le-trans, le-of-lt, zero-lt-suc, zero-mul}
 use native.Mathlib.Omega.{arith}
 use lib.Dec.{leb, eqb, lit≤}
 use lib.ListN.{length}
@@ -21,7 +20,6 @@ use Rattle.nco.specs.Nco.{stepOf}
 use Rattle.schedule.specs.Time.{timeAt, oneMore}
 use Rattle.schedule.specs.Dialling.{digitAt, inTone}
 use Rattle.schedule.specs.Length.{diallingLength}
-use Rattle.schedule.proofs.Count.{one-more-is}
 use Rattle.schedule.proofs.Samples.{rate-value}
 use Rattle.schedule.proofs.Lengths.{digitAfter, dialling-none, dialling-ends, dialling-range}
 use Rattle.stage.specs.declared.Dial.{Dial}
@@ -33,6 +31,7 @@ use Rattle.stage.specs.Enter.{digitTones, enterOf}
 use Rattle.stage.specs.Next.{soundedOf, pairStays, takenOver, dialledAt, dialStepOf, dialState, diallingOf, generateOf, stateNext}
 use Rattle.overture.specs.Iteration.{after}
 use Rattle.passage.proofs.Lasting.{Lasts, Passes, Course, passes}
+use Rattle.passage.proofs.Counted.{one-more}
 
 -- ---- the first sample is at t = 0: digit 0, in tone
 no-time : (r : ℕ) → 8000 ≤ r → r ≤ 192000 → timeAt r 0 ≡ float.zero
@@ -96,71 +95,67 @@ pub record Dials (digits : List ℕ) (r n : ℕ) (s : StageState) : Type 0 where
   pub state : s ≡ dialState dial n
   pub pair : Pair digits r (digitAt (timeAt r n)) (inTone (timeAt r n)) dial
 
-module _ (digits : List ℕ) (r : ℕ) (lo : 8000 ≤ r) (hi : r ≤ 192000) where
-  -- one sample, before which n have been made
-  module _ (dial : Dial) (n : ℕ) (more : oneMore n ≡ suc n) (at : dial .digit < length digits) where
-    abbrev t : Float
-    t = timeAt r (suc n)
+-- ---- one sample, before which n have been made
+module _ (digits : List ℕ) (r : ℕ) (dial : Dial) (n : ℕ) (more : oneMore n ≡ suc n) (at : dial .digit < length digits) where
+  abbrev t : Float
+  t = timeAt r (suc n)
 
-    step-is : dialStepOf dial (oneMore n) digits r ≡ dialledAt dial (soundedOf (dial .tone) (dial .a) (dial .b)) t digits r
-    unfolding dialStepOf
-    step-is = ap (λ (m : ℕ). dialStepOf dial m digits r) more ∙ rw (lt-leb (length digits) (dial .digit) at)
+  step-is : dialStepOf dial (oneMore n) digits r ≡ dialledAt dial (soundedOf (dial .tone) (dial .a) (dial .b)) t digits r
+  unfolding dialStepOf
+  step-is = ap (λ (m : ℕ). dialStepOf dial m digits r) more ∙ rw (lt-leb (length digits) (dial .digit) at)
 
-    dial-finishes : diallingOf dial n digits r .finished ≡ leb (length digits) (digitAt t)
-    unfolding diallingOf
-    dial-finishes = rw step-is
+  dial-finishes : diallingOf dial n digits r .finished ≡ leb (length digits) (digitAt t)
+  unfolding diallingOf
+  dial-finishes = rw step-is
 
-    dial-moves : (i : ℕ) (on : Bool) → Pair digits r i on dial → digitAt t < length digits → Dials digits r (suc n) (diallingOf dial n digits r .state)
-    unfolding diallingOf
-    dial-moves i on p l = record {
-      dial = dialStepOf dial (oneMore n) digits r .dial;
-      state = rw more;
-      pair = rw step-is (taken-pair digits r (digitAt t) (inTone t) _ _ (λ e. sounded-pair digits r (digitAt t) (inTone t) dial (same e) (dial .tone)));
-    }
-      where
-        same : pairStays (length digits) (digitAt t) (inTone t) (dial .digit) (dial .tone) ≡ true → Pair digits r (digitAt t) (inTone t) dial
-        same e =
-            let two = stays-same (length digits) (digitAt t) (inTone t) (dial .digit) (dial .tone) l e in
-            subst (λ (x : ℕ). Pair digits r x (inTone t) dial) (sym (p .digit) ∙ two .0)
-            (subst (λ (x : Bool). Pair digits r i x dial) (sym (p .tone) ∙ two .1) p)
+  dial-moves : (i : ℕ) (on : Bool) → Pair digits r i on dial → digitAt t < length digits → Dials digits r (suc n) (diallingOf dial n digits r .state)
+  unfolding diallingOf
+  dial-moves i on p l = record {
+    dial = dialStepOf dial (oneMore n) digits r .dial;
+    state = rw more;
+    pair = rw step-is (taken-pair digits r (digitAt t) (inTone t) _ _ (λ e. sounded-pair digits r (digitAt t) (inTone t) dial (same e) (dial .tone)));
+  }
+    where
+      same : pairStays (length digits) (digitAt t) (inTone t) (dial .digit) (dial .tone) ≡ true → Pair digits r (digitAt t) (inTone t) dial
+      same e =
+          let two = stays-same (length digits) (digitAt t) (inTone t) (dial .digit) (dial .tone) l e in
+          subst (λ (x : ℕ). Pair digits r x (inTone t) dial) (sym (p .digit) ∙ two .0)
+          (subst (λ (x : Bool). Pair digits r i x dial) (sym (p .tone) ∙ two .1) p)
 
-  -- ---- the stage, of some digits
-  module _ (some : 0 < length digits) (few : length digits ≤ 76) where
-    abbrev L : ℕ
-    L = diallingLength r (length digits)
+-- ---- the stage, of some digits
+module _ (digits : List ℕ) (r : ℕ) (lo : 8000 ≤ r) (hi : r ≤ 192000) (some : 0 < length digits) (few : length digits ≤ 76) where
+  abbrev L : ℕ
+  L = diallingLength r (length digits)
 
-    short : L ≤ 0xffff_ffff
-    short = le-trans (dialling-range r lo hi (length digits) few .1) (lit≤ tt)
+  short : L ≤ 0xffff_ffff
+  short = le-trans (dialling-range r lo hi (length digits) few .1) (lit≤ tt)
 
-    one-more : (j : ℕ) → j < L → oneMore j ≡ suc j
-    one-more j l = one-more-is j (lt-of-lt-of-le l short) ∙ add-one j
+  digit-below : (j : ℕ) → j < L → digitAt (timeAt r j) < length digits
+  digit-below zero l = rw (no-time r lo hi, digit-first) some
+  digit-below (suc j) l = dialling-ends r lo hi (length digits) few some .before (suc j) (zero-lt-suc j) l
 
-    digit-below : (j : ℕ) → j < L → digitAt (timeAt r j) < length digits
-    digit-below zero l = rw (no-time r lo hi, digit-first) some
-    digit-below (suc j) l = dialling-ends r lo hi (length digits) few some .before (suc j) (zero-lt-suc j) l
+  dial-below : (j : ℕ) (s : StageState) (a : Dials digits r j s) → j < L → a .dial .digit < length digits
+  dial-below j s a l = rw (a .pair .digit) (digit-below j l)
 
-    dial-below : (j : ℕ) (s : StageState) (a : Dials digits r j s) → j < L → a .dial .digit < length digits
-    dial-below j s a l = rw (a .pair .digit) (digit-below j l)
+  course : Course digits r stage.Dialling (Dials digits r) (digitAfter r) (length digits) L
+  unfolding stageOf generateOf
+  course = record {
+    named = λ j s a. ap stageOf (a .state);
+    moves = λ j s a l. rw (a .state) (dial-moves digits r (a .dial) j (one-more L short j (le-of-lt l)) (dial-below j s a (le-of-lt l)) _ _ (a .pair) (digit-below (suc j) l));
+    finishes = λ j s a l. rw (a .state) (dial-finishes digits r (a .dial) j (one-more L short j l) (dial-below j s a l));
+  }
 
-    course : Course digits r stage.Dialling (Dials digits r) (digitAfter r) (length digits) L
-    unfolding stageOf generateOf
-    course = record {
-      named = λ j s a. ap stageOf (a .state);
-      moves = λ j s a l. rw (a .state) (dial-moves (a .dial) j (one-more j (le-of-lt l)) (dial-below j s a (le-of-lt l)) _ _ (a .pair) (digit-below (suc j) l));
-      finishes = λ j s a l. rw (a .state) (dial-finishes (a .dial) j (one-more j l) (dial-below j s a l));
-    }
+  start : Dials digits r 0 (enterOf stage.Dialling digits r)
+  unfolding enterOf
+  start = record {
+    dial = _;
+    state = refl;
+    pair = rw (no-time r lo hi, digit-first, tone-first) (record { digit = refl; tone = refl; low = λ e. refl; high = λ e. refl });
+  }
 
-    start : Dials digits r 0 (enterOf stage.Dialling digits r)
-    unfolding enterOf
-    start = record {
-      dial = _;
-      state = refl;
-      pair = rw (no-time r lo hi, digit-first, tone-first) (record { digit = refl; tone = refl; low = λ e. refl; high = λ e. refl });
-    }
-
-    pub dialling-passes : Passes digits r (enterOf stage.Dialling digits r) stage.Dialling (Dials digits r) L (enterOf stage.Ringback digits r)
-    unfolding nextStage
-    dialling-passes = passes digits r stage.Dialling (Dials digits r) (digitAfter r) (length digits) L course (dialling-ends r lo hi (length digits) few some) (enterOf stage.Dialling digits r) start
+  pub dialling-passes : Passes digits r (enterOf stage.Dialling digits r) stage.Dialling (Dials digits r) L (enterOf stage.Ringback digits r)
+  unfolding nextStage
+  dialling-passes = passes digits r stage.Dialling (Dials digits r) (digitAfter r) (length digits) L course (dialling-ends r lo hi (length digits) few some) (enterOf stage.Dialling digits r) start
 
 -- ---- and of none: one sample
 none-last : (r : ℕ) → Lasts [] r (enterOf stage.Dialling [] r) stage.Dialling 1 (enterOf stage.Ringback [] r)

@@ -20,7 +20,7 @@ use Rattle.overture.specs.Iteration.{fresh, after}
 use Rattle.overture.proofs.Iteration.{after-add}
 use Rattle.passage.specs.Lengths.{stageLength, samplesBefore}
 use Rattle.passage.specs.Overture.{HasLength}
-use Rattle.passage.proofs.Stages.{never-falls}
+use Rattle.passage.proofs.Stages.{stage-entered, never-falls}
 use Rattle.passage.proofs.Lasting.{Lasts}
 use Rattle.passage.proofs.Counted.{off-hook-passes, dial-tone-passes, ringback-passes, ansam-passes}
 use Rattle.passage.proofs.Bits.{ci-passes, cm-jm-passes, cj-lasts, training-passes}
@@ -110,37 +110,32 @@ module _ (digits : List ℕ) (r : ℕ) (lo : 8000 ≤ r) (hi : r ≤ 192000) (fe
   pub stage-at : (k : Stage) (j : ℕ) → j < stageLength k r (length digits) → stageOf (after (samplesBefore k r (length digits) + j) (fresh digits r) digits r) ≡ k
   stage-at k j h = ap stageOf (after-entry k j) ∙ stage-lasts k .stays j h
 
-  -- ---- T
-  pub overture-length : HasLength digits r (total r (length digits))
-  unfolding samplesBefore stageLength nextStage enterOf stageNumber
-  overture-length = record {
-    sounding = λ k h. le-trans (never-falls digits r (fresh digits r) k last (before-last k h)) (le-of-eq (ap stageNumber last-stage));
-    connected = λ j. after-entry stage.Connected j ∙ connected-stays digits r j;
-  }
+  -- ---- by numbers: from a stage's first sample on, none is of a stage before it; up to its last, none is of a stage after it
+  pub not-before : (k : Stage) (j : ℕ) → samplesBefore k r (length digits) ≤ j → stageNumber k ≤ stageNumber (stageOf (after j (fresh digits r) digits r))
+  not-before k j h =
+      le-trans (le-of-eq (ap stageNumber (sym (ap stageOf (enters k) ∙ stage-entered k digits r))))
+      (never-falls digits r (fresh digits r) (samplesBefore k r (length digits)) j h)
+
+  pub not-after : (k : Stage) → stageNumber k ≤ 9 → (j : ℕ) → j < samplesBefore (nextStage k) r (length digits)
+      → stageNumber (stageOf (after j (fresh digits r) digits r)) ≤ stageNumber k
+  not-after k h j l =
+      let some = stage-some r lo hi (length digits) few k h in
+      le-trans (never-falls digits r (fresh digits r) j (samplesBefore k r (length digits) + (stageLength k r (length digits) - 1)) (within _ _ j (rw (before-next k r (length digits)) at l)))
+      (le-of-eq (ap stageNumber (stage-at k (stageLength k r (length digits) - 1) (less _ some))))
     where
-      A : ℕ
-      A = samplesBefore stage.Training r (length digits)
-
-      B : ℕ
-      B = stageLength stage.Training r (length digits)
-
-      some : 1 ≤ B
-      some = stage-some r lo hi (length digits) few stage.Training (lit≤ tt)
-
-      last : ℕ
-      last = A + (B - 1)
-
-      within : (a b k : ℕ) → 1 ≤ b → k < a + b → k ≤ a + (b - 1)
-      within a b k h l = omega arith
-
-      before-last : (k : ℕ) → k < total r (length digits) → k ≤ last
-      before-last k h = within A B k some (rw (before-next stage.Training r (length digits)) at h)
+      within : (a b j : ℕ) → j < a + b → j ≤ a + (b - 1)
+      within a b j l = omega arith
 
       less : (b : ℕ) → 1 ≤ b → b - 1 < b
       less b h = omega arith
 
-      last-stage : stageOf (after last (fresh digits r) digits r) ≡ stage.Training
-      last-stage = stage-at stage.Training (B - 1) (less B some)
+  -- ---- T
+  pub overture-length : HasLength digits r (total r (length digits))
+  unfolding samplesBefore nextStage enterOf stageNumber
+  overture-length = record {
+    sounding = not-after stage.Training (lit≤ tt);
+    connected = λ j. after-entry stage.Connected j ∙ connected-stays digits r j;
+  }
 
 -- ---- demand 3's bounds on T, and 01's on m: T and a buffer of 65,536 samples
 pub total-room : (r : ℕ) → 8000 ≤ r → r ≤ 192000 → (d : ℕ) → d ≤ 76 → total r d + 65536 ≤ 4863942
