@@ -1,0 +1,140 @@
+-- The stages of bits: Ci, CmJm and Training, and Cj with the zeros after its bits. After n samples a channel's bits done and its phase are those that the
+-- schedule's clock gives, so that a stage ends where the schedule says. Assumes nothing.
+use mathlib.Core.Path.{_≡_, refl, sym, ap, subst, _∙_}
+use mathlib.Core.Bool.{Bool, true, false}
+use mathlib.Core.List.{List}
+use Prim.Native.Nat.{ℕ, zero, suc, _+_, _≤_, _<_}
+use native.Mathlib.Nat.{le-refl, le-trans, le-of-lt, le-suc, lt-of-le-of-lt, suc-le-suc-iff}
+use lib.Dec.{leb, lit<, lit≤}
+use lib.Ieee.{Float}
+use borrow.Author.Tests.{le-leb, lt-leb}
+use Rattle.frame.specs.Frame.{ciPayload, cmJmPayload, cjPayload, trainingPayload}
+use Rattle.schedule.specs.Time.{samplesIn}
+use Rattle.schedule.specs.Symbols.{symbolStep, symbolEnds, nextPhase, phaseAfter, doneBy, doneAfter}
+use Rattle.schedule.specs.Length.{cjSilence, bitsLength}
+use Rattle.schedule.proofs.Lengths.{bitsAfter, bits-end, bits-before, bits-range, silence-range}
+use Rattle.fsk.specs.declared.FskChannel.{FskChannel}
+use Rattle.fsk.specs.Channel.{freshChannel, doneNext, nextChannel}
+use Rattle.stage.specs.declared.Stage.{Stage}
+use Rattle.stage.specs.declared.Stage.the-variants as stage
+use Rattle.stage.specs.declared.StageState.{StageState}
+use Rattle.stage.specs.declared.StageState.the-variants.{Ci, CmJm, Cj, Training}
+use Rattle.stage.specs.Stage.{nextStage, stageOf}
+use Rattle.stage.specs.Enter.{enterOf}
+use Rattle.stage.specs.Next.{ciOf, cmJmOf, cjAt, cjOf, trainingOf, generateOf, stateNext}
+use Rattle.overture.specs.Iteration.{after}
+use Rattle.overture.proofs.Iteration.{after-suc}
+use Rattle.passage.proofs.Lasting.{Lasts, Passes, Course, then-lasts, passes}
+use Rattle.passage.proofs.Counted.{one-more, counted}
+
+-- ---- the channel
+-- after n samples of a payload
+unfoldable pub channelAfter : List ℕ → ℕ → ℕ → FskChannel
+channelAfter payload r zero = freshChannel payload r
+channelAfter payload r (suc n) = nextChannel (channelAfter payload r n) payload
+
+done-most : (s : Float) (n : ℕ) → doneAfter s n ≤ n
+unfolding doneAfter
+done-most s zero = le-refl 0
+done-most s (suc n) = go (symbolEnds s (phaseAfter s n)) (doneAfter s n) (done-most s n)
+  where
+    go : (b : Bool) (k : ℕ) → k ≤ n → doneBy b k ≤ suc n
+    go true k l = suc-le-suc-iff .1 l
+    go false k l = le-trans l (le-suc n)
+
+module _ (payload : List ℕ) (r : ℕ) where
+  pub step-is : (n : ℕ) → channelAfter payload r n .step ≡ symbolStep r
+  unfolding channelAfter freshChannel nextChannel
+  step-is zero = refl
+  step-is (suc n) = step-is n
+
+  pub phase-is : (n : ℕ) → channelAfter payload r n .phase ≡ phaseAfter (symbolStep r) n
+  unfolding channelAfter freshChannel nextChannel phaseAfter
+  phase-is zero = refl
+  phase-is (suc n) = ap (λ (s : Float). nextPhase s (channelAfter payload r n .phase)) (step-is n) ∙ ap (nextPhase (symbolStep r)) (phase-is n)
+
+  pub done-is : (n : ℕ) → n ≤ 0xffff_ffff → channelAfter payload r n .done ≡ doneAfter (symbolStep r) n
+  unfolding channelAfter freshChannel nextChannel doneAfter
+  done-is zero l = refl
+  done-is (suc n) l =
+      let f = channelAfter payload r n in
+      let s = symbolStep r in
+      ap (λ (x : Float). doneNext (symbolEnds x (f .phase)) (f .done)) (step-is n)
+      ∙ ap (λ (x : Float). doneNext (symbolEnds s x) (f .done)) (phase-is n)
+      ∙ ap (doneNext (symbolEnds s (phaseAfter s n))) (done-is n (le-of-lt l))
+      ∙ go (symbolEnds s (phaseAfter s n)) (doneAfter s n) (lt-of-le-of-lt (done-most s n) l)
+    where
+      go : (b : Bool) (k : ℕ) → k < 0xffff_ffff → doneNext b k ≡ doneBy b k
+      go true k h = one-more 0xffff_ffff (le-refl _) k h
+      go false k h = refl
+
+-- a state that is the payload's channel after j samples
+abbrev pub Keys : (FskChannel → StageState) → List ℕ → ℕ → ℕ → StageState → Type 0
+Keys state payload r j s = s ≡ state (channelAfter payload r j)
+
+module _ (digits : List ℕ) (r : ℕ) (lo : 8000 ≤ r) (hi : r ≤ 192000) where
+  few : (N : ℕ) → N ≤ 300 → bitsLength r N ≤ 0xffff_ffff
+  few N B = le-trans (bits-range r lo hi N B .1) (lit≤ tt)
+
+  -- ---- a stage that is a channel and ends with its bits
+  module _ (payload : List ℕ) (N : ℕ) (B : N ≤ 300) (k : Stage) (state : FskChannel → StageState)
+      (named : (f : FskChannel) → stageOf (state f) ≡ k)
+      (moves : (f : FskChannel) → generateOf (state f) digits r .state ≡ state (nextChannel f payload))
+      (finishes : (f : FskChannel) → generateOf (state f) digits r .finished ≡ leb N (nextChannel f payload .done)) where
+    course : Course digits r k (Keys state payload r) (bitsAfter r) N (bitsLength r N)
+    unfolding channelAfter
+    course = record {
+      named = λ j s a. ap stageOf a ∙ named (channelAfter payload r j);
+      moves = λ j s a l. ap (λ (t : StageState). generateOf t digits r .state) a ∙ moves (channelAfter payload r j);
+      finishes = λ j s a l. ap (λ (t : StageState). generateOf t digits r .finished) a ∙ finishes (channelAfter payload r j) ∙ ap (leb N) (done-is payload r (suc j) (le-trans l (few N B)));
+    }
+
+    bits-pass : Passes digits r (state (freshChannel payload r)) k (Keys state payload r) (bitsLength r N) (enterOf (nextStage k) digits r)
+    unfolding channelAfter
+    bits-pass = passes digits r k (Keys state payload r) (bitsAfter r) N (bitsLength r N) course (bits-end r lo hi N B) (state (freshChannel payload r)) refl
+
+  pub ci-passes : Passes digits r (enterOf stage.Ci digits r) stage.Ci (Keys Ci ciPayload r) (bitsLength r 60) (enterOf stage.Ansam digits r)
+  unfolding enterOf nextStage stageOf generateOf ciOf
+  ci-passes = bits-pass ciPayload 60 (lit≤ tt) stage.Ci Ci (λ f. refl) (λ f. refl) (λ f. refl)
+
+  pub cm-jm-passes : Passes digits r (enterOf stage.CmJm digits r) stage.CmJm (Keys CmJm cmJmPayload r) (bitsLength r 80) (enterOf stage.Cj digits r)
+  unfolding enterOf nextStage stageOf generateOf cmJmOf
+  cm-jm-passes = bits-pass cmJmPayload 80 (lit≤ tt) stage.CmJm CmJm (λ f. refl) (λ f. refl) (λ f. refl)
+
+  pub training-passes : Passes digits r (enterOf stage.Training digits r) stage.Training (Keys Training trainingPayload r) (bitsLength r 300) (enterOf stage.Connected digits r)
+  unfolding enterOf nextStage stageOf generateOf trainingOf
+  training-passes = bits-pass trainingPayload 300 (lit≤ tt) stage.Training Training (λ f. refl) (λ f. refl) (λ f. refl)
+
+  -- ---- Cj: its bits, of which none ends the stage, and then its zeros
+  cj-moves : (f : FskChannel) → f .done < 60 → stateNext (Cj f 0) digits r ≡ Cj (nextChannel f cjPayload) 0
+  unfolding stateNext generateOf cjOf cjAt
+  cj-moves f h = rw (lt-leb 60 (f .done) h)
+
+  pub cj-channel-is : (j : ℕ) → j ≤ bitsLength r 60 → after j (enterOf stage.Cj digits r) digits r ≡ Cj (channelAfter cjPayload r j) 0
+  unfolding after enterOf channelAfter
+  cj-channel-is zero l = refl
+  cj-channel-is (suc j) l =
+      after-suc digits r j (enterOf stage.Cj digits r)
+      ∙ ap (λ (s : StageState). stateNext s digits r) (cj-channel-is j (le-of-lt l))
+      ∙ cj-moves (channelAfter cjPayload r j) (subst (λ (n : ℕ). n < 60) (sym (done-is cjPayload r j (le-trans (le-of-lt l) (few 60 (lit≤ tt))))) (bits-before r lo hi 60 (lit< tt) (lit≤ tt) j l))
+
+  abbrev cj-done : FskChannel
+  cj-done = channelAfter cjPayload r (bitsLength r 60)
+
+  cj-bits : Lasts digits r (enterOf stage.Cj digits r) stage.Cj (bitsLength r 60) (Cj cj-done 0)
+  unfolding stageOf
+  cj-bits = record { stays = λ j l. ap stageOf (cj-channel-is j (le-of-lt l)); ends = cj-channel-is (bitsLength r 60) (le-refl _) }
+
+  cj-zeros : (f : FskChannel) → 60 ≤ f .done → Lasts digits r (Cj f 0) stage.Cj (samplesIn cjSilence r) (enterOf stage.Training digits r)
+  unfolding nextStage stageOf generateOf cjOf cjAt
+  cj-zeros f h =
+      let range = silence-range r lo hi in
+      let done = le-leb 60 (f .done) h in
+      counted digits r stage.Cj (samplesIn cjSilence r) (range .0) (le-trans (range .1) (lit≤ tt))
+      {X = Unit} (λ x z. Cj f z) (λ x z. x) (λ x z. refl) (λ x z. rw done) (λ x z. rw done) tt .lasts
+
+  pub cj-lasts : Lasts digits r (enterOf stage.Cj digits r) stage.Cj (bitsLength r 60 + samplesIn cjSilence r) (enterOf stage.Training digits r)
+  cj-lasts =
+      then-lasts digits r (enterOf stage.Cj digits r) (Cj cj-done 0) (enterOf stage.Training digits r) stage.Cj (bitsLength r 60) (samplesIn cjSilence r)
+      cj-bits
+      (cj-zeros cj-done (subst (λ (n : ℕ). 60 ≤ n) (sym (done-is cjPayload r (bitsLength r 60) (few 60 (lit≤ tt)))) (bits-end r lo hi 60 (lit≤ tt) .reached)))
