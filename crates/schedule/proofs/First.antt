@@ -3,7 +3,7 @@ use mathlib.Core.Path.{_≡_, refl, sym, subst}
 use mathlib.Core.Logic.{inl, inr}
 use mathlib.Core.Bool.{Bool, true, false, not}
 use Prim.Native.Nat.{ℕ, zero, suc, _+_, _*_, _≤_, _<_}
-use native.Mathlib.Nat.{le-refl, le-trans, le-of-eq, le-suc, eq-or-lt-of-le, add-zero, mul-suc, add-le-add}
+use native.Mathlib.Nat.{le-refl, le-trans, le-of-eq, le-suc, eq-or-lt-of-le, add-zero}
 use native.Mathlib.Omega.{arith}
 use lib.Dec.{T, leb, leb→le, nleb→lt, le→leb}
 use Rattle.schedule.specs.Length.{firstFrom}
@@ -15,30 +15,19 @@ record First (p : ℕ → Bool) (k n m : ℕ) : Type 0 where
   least : n ≤ m
   most : m ≤ n + k
 
-none-between : {A : Type 0} (j n : ℕ) → n ≤ j → j < n → A
-none-between j n h k = absurd (no j n h k)
-  where
-    no : (j n : ℕ) → n ≤ j → j < n → ⊥
-    no j n h k = omega arith
-
 first : (p : ℕ → Bool) (k : ℕ) (b : Bool) (n : ℕ) → p n ≡ b → T (p (n + k)) → First p k n (firstFrom p k b n)
 unfolding firstFrom
-first p zero b n e h = record { holds = subst (λ (z : ℕ). T (p z)) (add-zero n) h; before = λ j. none-between j n; least = le-refl n; most = le-of-eq (sym (add-zero n)) }
-first p (suc k) true n e h = record { holds = subst T (sym e) tt; before = λ j. none-between j n; least = le-refl n; most = up-to n (suc k) }
-  where
-    up-to : (n k : ℕ) → n ≤ n + k
-    up-to n k = omega arith
+first p zero b n e h = record { holds = subst (λ (z : ℕ). T (p z)) (add-zero n) h; before = λ j l g. absurd (omega arith); least = le-refl n; most = omega arith }
+first p (suc k) true n e h = record { holds = subst T (sym e) tt; before = λ j l g. absurd (omega arith); least = le-refl n; most = omega arith }
 first p (suc k) false n e h =
-    let r = first p k (p (suc n)) (suc n) refl (subst (λ (z : ℕ). T (p z)) (shift n k) h) in
+    let shift : n + suc k ≡ suc n + k = omega arith in
+    let r = first p k (p (suc n)) (suc n) refl (subst (λ (z : ℕ). T (p z)) shift h) in
     record {
       holds = r .holds;
       before = λ j l g. elim (eq-or-lt-of-le l) [ inl q ↦ subst (λ (z : ℕ). T (not (p z))) q (subst (λ (t : Bool). T (not t)) (sym e) tt) | inr w ↦ r .before j w g ];
       least = le-trans (le-suc n) (r .least);
-      most = le-trans (r .most) (le-of-eq (sym (shift n k)));
+      most = le-trans (r .most) (le-of-eq (sym shift));
     }
-  where
-    shift : (n k : ℕ) → n + suc k ≡ suc n + k
-    shift n k = omega arith
 
 -- ---- m is the first number from 1 on at which the count is N or more
 pub record Reaches (count : ℕ → ℕ) (N m : ℕ) : Type 0 where
@@ -55,22 +44,8 @@ first-reaches count N k h m e =
 -- a * n is at most b until the count is N, and b or more then: so it is N first at b / a, or less than 1 after that
 pub near : (count : ℕ → ℕ) (N a b K m : ℕ) → ((n : ℕ) → 1 ≤ n → n ≤ K → count n < N → a * n ≤ b) → ((n : ℕ) → 1 ≤ n → n ≤ K → N ≤ count n → b ≤ a * n)
     → Reaches count N m → m ≤ K → (b ≤ a * m) × (a * m ≤ b + a)
-near count N a b K zero early late f l = absurd (none (f .some))
-  where
-    none : 1 ≤ 0 → ⊥
-    none h = omega arith
-near count N a b K (suc zero) early late f l = (late 1 (f .some) l (f .reached), more)
-  where
-    more : a * 1 ≤ b + a
-    more = omega arith
+near count N a b K zero early late f l = absurd (omega (arith, f .some))
+near count N a b K (suc zero) early late f l = (late 1 (f .some) l (f .reached), omega arith)
 near count N a b K (suc (suc n)) early late f l =
-    (late (suc (suc n)) (f .some) l (f .reached), more (early (suc n) (some n) (less n l) (f .before (suc n) (some n) (le-refl (suc (suc n))))))
-  where
-    some : (n : ℕ) → 1 ≤ suc n
-    some n = omega arith
-
-    less : (n : ℕ) → suc (suc n) ≤ K → suc n ≤ K
-    less n h = omega arith
-
-    more : a * suc n ≤ b → a * suc (suc n) ≤ b + a
-    more h = rw (mul-suc a (suc n)) (add-le-add h (le-refl a))
+    let h = early (suc n) (omega arith) (omega arith) (f .before (suc n) (omega arith) (le-refl (suc (suc n)))) in
+    (late (suc (suc n)) (f .some) l (f .reached), omega arith)

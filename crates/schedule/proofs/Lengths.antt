@@ -1,7 +1,7 @@
 -- How long the stages are: Dialling and the stages of bits end at the first sample that 01 names, and each stage has 1 sample or more and a bound that its count can hold. Assumes nothing.
 use mathlib.Core.Path.{_≡_, refl}
 use Prim.Native.Nat.{ℕ, zero, suc, _+_, _*_, _^_, _≤_, _<_}
-use native.Mathlib.Nat.{le-trans, lt-of-not-le, not-le-of-lt, le-of-suc-le-suc, mul-le-mul, zero-mul, zero-lt-suc}
+use native.Mathlib.Nat.{le-trans, lt-of-le-of-lt, lt-of-not-le, not-le-of-lt, le-of-suc-le-suc, mul-le-mul, zero-lt-suc}
 use native.Mathlib.Omega.{arith}
 use lib.Dec.{lit<, lit≤}
 use Rattle.math.specs.Float.{one}
@@ -29,14 +29,8 @@ module _ (r : ℕ) (lo : 8000 ≤ r) (hi : r ≤ 192000) where
   -- ---- Dialling
   dialling-first : (d : ℕ) → d ≤ 76 → 0 < d → Reaches (digitAfter r) d (diallingLength r d) × (diallingLength r d ≤ 4000001)
   unfolding diallingLength
-  dialling-first zero D P = absurd (none P)
-    where
-      none : 0 < 0 → ⊥
-      none h = omega arith
-  dialling-first (suc d) D P = first-reaches (digitAfter r) (suc d) 4000000 (digit-late r lo hi 4000001 (lit< tt) (lit≤ tt) (suc d) D (far (suc d * r) (mul-le-mul D hi))) (diallingLength r (suc d)) refl
-    where
-      far : (x : ℕ) → x ≤ 14592000 → x < 5 * 4000001
-      far x h = omega arith
+  dialling-first zero D P = absurd (omega arith)
+  dialling-first (suc d) D P = first-reaches (digitAfter r) (suc d) 4000000 (digit-late r lo hi 4000001 (lit< tt) (lit≤ tt) (suc d) D (lt-of-le-of-lt (mul-le-mul D hi) (lit< tt))) (diallingLength r (suc d)) refl
 
   -- it ends at the first sample at which i >= d
   pub dialling-ends : (d : ℕ) → d ≤ 76 → 0 < d → Reaches (digitAfter r) d (diallingLength r d)
@@ -44,10 +38,7 @@ module _ (r : ℕ) (lo : 8000 ≤ r) (hi : r ≤ 192000) where
 
   -- d * r / 5, or within 1 after that
   pub dialling-near : (d : ℕ) → d ≤ 76 → (d * r ≤ 5 * diallingLength r d) × (5 * diallingLength r d ≤ d * r + 5)
-  dialling-near zero D = rw (dialling-none r) (zero-case (0 * r) (zero-mul r))
-    where
-      zero-case : (x : ℕ) → x ≡ 0 → (x ≤ 5 * 1) × (5 * 1 ≤ x + 5)
-      zero-case x e = (omega arith, omega arith)
+  dialling-near zero D = rw (dialling-none r) (omega arith, omega arith)
   dialling-near (suc d) D =
       let f = dialling-first (suc d) D (zero-lt-suc d) in
       near (digitAfter r) (suc d) 5 (suc d * r) (2 ^ 32) (diallingLength r (suc d)) early (λ n some most h. digit-early r lo hi n some most (suc d) h) (f .0) (le-trans (f .1) (lit≤ tt))
@@ -60,11 +51,8 @@ module _ (r : ℕ) (lo : 8000 ≤ r) (hi : r ≤ 192000) where
   unfolding bitsLength
   bits-first N B = first-reaches (bitsAfter r) N 1000000 enough (bitsLength r N) refl
     where
-      no : (x : ℕ) → 300 * 1000001 ≤ x → x ≤ 57600000 → ⊥
-      no x h k = omega arith
-
       enough : N ≤ bitsAfter r 1000001
-      enough = le-of-suc-le-suc (lt-of-not-le (λ (g : suc (bitsAfter r 1000001) ≤ N). no (N * r) (bits-early r lo hi N 1000001 B g) (mul-le-mul B hi)))
+      enough = le-of-suc-le-suc (lt-of-not-le (λ (g : suc (bitsAfter r 1000001) ≤ N). not-le-of-lt (lit< tt) (le-trans (bits-early r lo hi N 1000001 B g) (mul-le-mul B hi))))
 
   -- they end at the first sample at which all N are done
   pub bits-end : (N : ℕ) → N ≤ 300 → Reaches (bitsAfter r) N (bitsLength r N)
@@ -84,35 +72,29 @@ module _ (r : ℕ) (lo : 8000 ≤ r) (hi : r ≤ 192000) where
 
   -- ---- each stage, at least and at most
   pub click-range : (1 ≤ samplesIn clickTime r) × (samplesIn clickTime r ≤ 9600)
-  click-range = go (samplesIn clickTime r) (click-near r lo hi)
-    where
-      go : (n : ℕ) → (20 * n ≤ r + 10) × (r ≤ 20 * n + 10) → (1 ≤ n) × (n ≤ 9600)
-      go n h = (omega (arith, h .1), omega (arith, h .0))
+  click-range = let h = click-near r lo hi in (omega arith, omega arith)
 
   pub dial-tone-range : (1 ≤ samplesIn one r) × (samplesIn one r ≤ 192000)
-  dial-tone-range = rw (dial-tone-samples r lo hi) (omega arith, hi)
+  dial-tone-range = let h = dial-tone-samples r lo hi in (omega arith, omega arith)
 
   pub dialling-range : (d : ℕ) → d ≤ 76 → (1 ≤ diallingLength r d) × (diallingLength r d ≤ 2918401)
   dialling-range zero D = rw (dialling-none r) (lit≤ tt, lit≤ tt)
-  dialling-range (suc d) D = (dialling-ends (suc d) D (zero-lt-suc d) .some, go (diallingLength r (suc d)) (suc d * r) (mul-le-mul D hi) (dialling-near (suc d) D .1))
-    where
-      go : (n x : ℕ) → x ≤ 14592000 → 5 * n ≤ x + 5 → n ≤ 2918401
-      go n x h k = omega arith
+  dialling-range (suc d) D =
+      let h = dialling-near (suc d) D in
+      let most : suc d * r ≤ 14592000 = mul-le-mul D hi in
+      (dialling-ends (suc d) D (zero-lt-suc d) .some, omega arith)
 
   pub ringback-range : (1 ≤ samplesIn ringbackTime r) × (samplesIn ringbackTime r ≤ 768000)
-  ringback-range = rw (ringback-samples r lo hi) (omega arith, omega arith)
+  ringback-range = let h = ringback-samples r lo hi in (omega arith, omega arith)
 
   pub bits-range : (N : ℕ) → N ≤ 300 → (1 ≤ bitsLength r N) × (bitsLength r N ≤ 192001)
-  bits-range N B = (bits-end N B .some, go (bitsLength r N) (N * r) (mul-le-mul B hi) (bits-near N B .1))
-    where
-      go : (n x : ℕ) → x ≤ 57600000 → 300 * n ≤ x + 300 → n ≤ 192001
-      go n x h k = omega arith
+  bits-range N B =
+      let h = bits-near N B in
+      let most : N * r ≤ 57600000 = mul-le-mul B hi in
+      (bits-end N B .some, omega arith)
 
   pub ansam-range : (1 ≤ samplesIn ansamTime r) × (samplesIn ansamTime r ≤ 576000)
-  ansam-range = rw (ansam-samples r lo hi) (omega arith, omega arith)
+  ansam-range = let h = ansam-samples r lo hi in (omega arith, omega arith)
 
   pub silence-range : (1 ≤ samplesIn cjSilence r) × (samplesIn cjSilence r ≤ 14400)
-  silence-range = go (samplesIn cjSilence r) (silence-near r lo hi)
-    where
-      go : (n : ℕ) → (40 * n ≤ 3 * r + 20) × (3 * r ≤ 40 * n + 20) → (1 ≤ n) × (n ≤ 14400)
-      go n h = (omega (arith, h .1), omega (arith, h .0))
+  silence-range = let h = silence-near r lo hi in (omega arith, omega arith)
