@@ -1,1 +1,11 @@
 pub mod Constants
+pub mod Count
+pub mod Samples
+pub mod Units
+pub mod Digits
+pub mod Symbols
+pub mod SymbolPhase
+pub mod First
+pub mod Lengths
+pub mod Total
+pub mod Cases

@@ -1,5 +1,5 @@
 -- 01, "Stages", 6: the sign is plus if floor(t / 0.45) is even.
-use Prim.Native.Nat.{ℕ, _%_}
+use Prim.Native.Nat.{_%_}
 use mathlib.Core.Bool.{Bool, true, false}
 use lib.Dec.{eqb}
 use lib.Ieee.{Float, neg}

@@ -4,3 +4,4 @@ pub mod Ringback
 pub mod Ansam
 pub mod Symbols
 pub mod Length
+pub mod Bounds

@@ -1,7 +1,7 @@
 -- 01, "Stages", 5, 7, 8 and 9: after a sample the symbol phase adds 300 / r; at 1 or more, less 1, and one bit is done.
 use Prim.Native.Nat.{ℕ, zero, suc}
-use mathlib.Core.Bool.{Bool, true, false}
-use lib.Ieee.{Float, le}
+use mathlib.Core.Bool.{Bool, true, false, _&&_}
+use lib.Ieee.{Float, le, lt}
 use Rattle.math.specs.Float.{zero as none, ofNat, one, plus, minus, over}
 
 -- 300 / r
@@ -32,3 +32,7 @@ doneBy false k = k
 unfoldable pub doneAfter : Float → ℕ → ℕ
 doneAfter s zero = 0
 doneAfter s (suc n) = doneBy (symbolEnds s (phaseAfter s n)) (doneAfter s n)
+
+-- 01, "Sound": symbol phase in [0, 1)
+abbrev pub inSymbol : Float → Bool
+inSymbol p = le none p && lt p one

@@ -1,9 +1,8 @@
+-- `schedule::dialling_phase` meets its contract. The digit is what `math::floor` ensures, and what is left after i × 0.2 follows once that i is put in. Assumes nothing.
 use borrow.Author.Needs.{needs}
 use Rattle.schedule.specs.Dialling.{digitAt, inTone}
 use Rattle.schedule.proofs.dialling_phase.Statement.{statement}
 use Rattle.schedule.proofs.dialling_phase.Tie as tie
-use Rattle.schedule.proofs.dialling_phase.Reads as reads
-use Rattle.schedule.proofs.dialling_phase.Lts as lts
 
 floor-requires : tie.Need-floor-requires
 floor-requires c κs = search needs

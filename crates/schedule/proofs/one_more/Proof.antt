@@ -1,3 +1,4 @@
+-- `schedule::one_more` meets its contract. Each arm returns what `countUp` picks, as the test found n. Assumes nothing.
 use borrow.Author.Needs.{needs}
 use borrow.Author.Tests.{lt-ltb, le-ltb}
 use Rattle.schedule.specs.Time.{oneMore}

@@ -1,10 +1,9 @@
+-- `schedule::reversal_sign` meets its contract. Each arm returns the sign that `signBy` picks, as the test found the rest of what `math::floor` ensures. Assumes nothing.
 use borrow.Author.Needs.{needs}
 use borrow.Author.Tests.{eq-eqb, ne-eqb}
 use Rattle.schedule.specs.Ansam.{signAt}
 use Rattle.schedule.proofs.reversal_sign.Statement.{statement}
 use Rattle.schedule.proofs.reversal_sign.Tie as tie
-use Rattle.schedule.proofs.reversal_sign.Reads as reads
-use Rattle.schedule.proofs.reversal_sign.Lts as lts
 
 floor-requires : tie.Need-floor-requires
 floor-requires c κs = search needs

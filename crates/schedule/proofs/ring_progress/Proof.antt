@@ -1,4 +1,4 @@
-use mathlib.Core.Path.{refl}
+-- `schedule::ring_progress` meets its contract. The literal 3.0 is the number 3, and each arm returns what the definitions pick, as the test found t. Assumes nothing.
 use Rattle.schedule.specs.Ringback.{ringAt, ringTime}
 use Rattle.schedule.proofs.Constants.{three}
 use Rattle.schedule.proofs.ring_progress.Statement.{statement}

@@ -1,3 +1,4 @@
+-- `schedule::ringback_gate` meets its contract: the tests and their order are the definition's. Assumes nothing.
 use mathlib.Core.Path.{refl}
 use Rattle.schedule.specs.Ringback.{ringTone}
 use Rattle.schedule.proofs.ringback_gate.Statement.{statement}

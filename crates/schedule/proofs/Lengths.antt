@@ -1,0 +1,118 @@
+-- How long the stages are: Dialling and the stages of bits end at the first sample that 01 names, and each stage has 1 sample or more and a bound that its count can hold. Assumes nothing.
+use mathlib.Core.Path.{_≡_, refl}
+use Prim.Native.Nat.{ℕ, zero, suc, _+_, _*_, _^_, _≤_, _<_}
+use native.Mathlib.Nat.{le-trans, lt-of-not-le, not-le-of-lt, le-of-suc-le-suc, mul-le-mul, zero-mul, zero-lt-suc}
+use native.Mathlib.Omega.{arith}
+use lib.Dec.{lit<, lit≤}
+use Rattle.math.specs.Float.{one}
+use Rattle.schedule.specs.Time.{timeAt, samplesIn}
+use Rattle.schedule.specs.Dialling.{digitAt}
+use Rattle.schedule.specs.Symbols.{symbolStep, doneAfter}
+use Rattle.schedule.specs.Length.{clickTime, ringbackTime, ansamTime, cjSilence, bitsLength, diallingLength}
+use Rattle.schedule.proofs.Samples.{click-near, silence-near, dial-tone-samples, ringback-samples, ansam-samples}
+use Rattle.schedule.proofs.First.{Reaches, first-reaches, near}
+use Rattle.schedule.proofs.Symbols.{bits-early, bits-late}
+use Rattle.schedule.proofs.Digits.{digit-early, digit-late}
+
+-- the digit's number after n samples, and the bits done
+abbrev pub digitAfter : ℕ → ℕ → ℕ
+digitAfter r n = digitAt (timeAt r n)
+
+abbrev pub bitsAfter : ℕ → ℕ → ℕ
+bitsAfter r n = doneAfter (symbolStep r) n
+
+pub dialling-none : (r : ℕ) → diallingLength r 0 ≡ 1
+unfolding diallingLength
+dialling-none r = refl
+
+module _ (r : ℕ) (lo : 8000 ≤ r) (hi : r ≤ 192000) where
+  -- ---- Dialling
+  dialling-first : (d : ℕ) → d ≤ 76 → 0 < d → Reaches (digitAfter r) d (diallingLength r d) × (diallingLength r d ≤ 4000001)
+  unfolding diallingLength
+  dialling-first zero D P = absurd (none P)
+    where
+      none : 0 < 0 → ⊥
+      none h = omega arith
+  dialling-first (suc d) D P = first-reaches (digitAfter r) (suc d) 4000000 (digit-late r lo hi 4000001 (lit< tt) (lit≤ tt) (suc d) D (far (suc d * r) (mul-le-mul D hi))) (diallingLength r (suc d)) refl
+    where
+      far : (x : ℕ) → x ≤ 14592000 → x < 5 * 4000001
+      far x h = omega arith
+
+  -- it ends at the first sample at which i >= d
+  pub dialling-ends : (d : ℕ) → d ≤ 76 → 0 < d → Reaches (digitAfter r) d (diallingLength r d)
+  dialling-ends d D P = dialling-first d D P .0
+
+  -- d * r / 5, or within 1 after that
+  pub dialling-near : (d : ℕ) → d ≤ 76 → (d * r ≤ 5 * diallingLength r d) × (5 * diallingLength r d ≤ d * r + 5)
+  dialling-near zero D = rw (dialling-none r) (zero-case (0 * r) (zero-mul r))
+    where
+      zero-case : (x : ℕ) → x ≡ 0 → (x ≤ 5 * 1) × (5 * 1 ≤ x + 5)
+      zero-case x e = (omega arith, omega arith)
+  dialling-near (suc d) D =
+      let f = dialling-first (suc d) D (zero-lt-suc d) in
+      near (digitAfter r) (suc d) 5 (suc d * r) (2 ^ 32) (diallingLength r (suc d)) early (λ n some most h. digit-early r lo hi n some most (suc d) h) (f .0) (le-trans (f .1) (lit≤ tt))
+    where
+      early : (n : ℕ) → 1 ≤ n → n ≤ 2 ^ 32 → digitAfter r n < suc d → 5 * n ≤ suc d * r
+      early n some most h = le-of-suc-le-suc (lt-of-not-le (λ (g : suc (suc d * r) ≤ 5 * n). not-le-of-lt h (digit-late r lo hi n some most (suc d) D g)))
+
+  -- ---- the stages of bits
+  bits-first : (N : ℕ) → N ≤ 300 → Reaches (bitsAfter r) N (bitsLength r N) × (bitsLength r N ≤ 1000001)
+  unfolding bitsLength
+  bits-first N B = first-reaches (bitsAfter r) N 1000000 enough (bitsLength r N) refl
+    where
+      no : (x : ℕ) → 300 * 1000001 ≤ x → x ≤ 57600000 → ⊥
+      no x h k = omega arith
+
+      enough : N ≤ bitsAfter r 1000001
+      enough = le-of-suc-le-suc (lt-of-not-le (λ (g : suc (bitsAfter r 1000001) ≤ N). no (N * r) (bits-early r lo hi N 1000001 B g) (mul-le-mul B hi)))
+
+  -- they end at the first sample at which all N are done
+  pub bits-end : (N : ℕ) → N ≤ 300 → Reaches (bitsAfter r) N (bitsLength r N)
+  bits-end N B = bits-first N B .0
+
+  -- and no sample before has them done, the stage's beginning included
+  pub bits-before : (N : ℕ) → 0 < N → N ≤ 300 → (n : ℕ) → n < bitsLength r N → bitsAfter r n < N
+  unfolding doneAfter
+  bits-before N P B zero h = P
+  bits-before N P B (suc n) h = bits-end N B .before (suc n) (zero-lt-suc n) h
+
+  -- N * r / 300, or within 1 after that
+  pub bits-near : (N : ℕ) → N ≤ 300 → (N * r ≤ 300 * bitsLength r N) × (300 * bitsLength r N ≤ N * r + 300)
+  bits-near N B =
+      let f = bits-first N B in
+      near (bitsAfter r) N 300 (N * r) (2 ^ 32) (bitsLength r N) (λ n some most h. bits-early r lo hi N n B h) (λ n some most h. bits-late r lo hi N n most h) (f .0) (le-trans (f .1) (lit≤ tt))
+
+  -- ---- each stage, at least and at most
+  pub click-range : (1 ≤ samplesIn clickTime r) × (samplesIn clickTime r ≤ 9600)
+  click-range = go (samplesIn clickTime r) (click-near r lo hi)
+    where
+      go : (n : ℕ) → (20 * n ≤ r + 10) × (r ≤ 20 * n + 10) → (1 ≤ n) × (n ≤ 9600)
+      go n h = (omega (arith, h .1), omega (arith, h .0))
+
+  pub dial-tone-range : (1 ≤ samplesIn one r) × (samplesIn one r ≤ 192000)
+  dial-tone-range = rw (dial-tone-samples r lo hi) (omega arith, hi)
+
+  pub dialling-range : (d : ℕ) → d ≤ 76 → (1 ≤ diallingLength r d) × (diallingLength r d ≤ 2918401)
+  dialling-range zero D = rw (dialling-none r) (lit≤ tt, lit≤ tt)
+  dialling-range (suc d) D = (dialling-ends (suc d) D (zero-lt-suc d) .some, go (diallingLength r (suc d)) (suc d * r) (mul-le-mul D hi) (dialling-near (suc d) D .1))
+    where
+      go : (n x : ℕ) → x ≤ 14592000 → 5 * n ≤ x + 5 → n ≤ 2918401
+      go n x h k = omega arith
+
+  pub ringback-range : (1 ≤ samplesIn ringbackTime r) × (samplesIn ringbackTime r ≤ 768000)
+  ringback-range = rw (ringback-samples r lo hi) (omega arith, omega arith)
+
+  pub bits-range : (N : ℕ) → N ≤ 300 → (1 ≤ bitsLength r N) × (bitsLength r N ≤ 192001)
+  bits-range N B = (bits-end N B .some, go (bitsLength r N) (N * r) (mul-le-mul B hi) (bits-near N B .1))
+    where
+      go : (n x : ℕ) → x ≤ 57600000 → 300 * n ≤ x + 300 → n ≤ 192001
+      go n x h k = omega arith
+
+  pub ansam-range : (1 ≤ samplesIn ansamTime r) × (samplesIn ansamTime r ≤ 576000)
+  ansam-range = rw (ansam-samples r lo hi) (omega arith, omega arith)
+
+  pub silence-range : (1 ≤ samplesIn cjSilence r) × (samplesIn cjSilence r ≤ 14400)
+  silence-range = go (samplesIn cjSilence r) (silence-near r lo hi)
+    where
+      go : (n : ℕ) → (40 * n ≤ 3 * r + 20) × (3 * r ≤ 40 * n + 20) → (1 ≤ n) × (n ≤ 14400)
+      go n h = (omega (arith, h .1), omega (arith, h .0))
