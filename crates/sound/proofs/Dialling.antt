@@ -5,8 +5,7 @@ use mathlib.Core.Logic.{inl, inr}
 use mathlib.Core.Bool.{_||_}
 use Prim.Native.Nat.{ℕ, zero, suc, _*_, _^_, _≤_, _<_, zero-le}
 use native.Mathlib.Nat.{le-trans, lt-of-le-of-lt, lt-of-not-le, not-le-of-lt, eq-or-lt-of-le, zero-lt-suc, mul-lt-mul-of-pos-left}
-use native.Mathlib.Omega.{arith}
-use lib.Dec.{T, ltb, eqb, ltb→lt, lt→ltb, eqb·suc-zero, lit≤}
+use lib.Dec.{ltb, eqb, ltb→lt, lt→ltb, eqb·suc-zero, lit≤}
 use borrow.Author.Tests.{lt-ltb, le-ltb}
 use Rattle.math.proofs.Tests.{same-test}
 use Rattle.schedule.specs.Time.{timeAt}

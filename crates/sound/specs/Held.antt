@@ -1,5 +1,4 @@
 -- Every float of a state is a number of binary64, as in any state that code holds: the laws on sound states ask it, since a definition can be given any float.
-use mathlib.Core.Bool.{true}
 use lib.Dec.{T}
 use lib.Ieee.{Float, binary64, fits}
 use Rattle.nco.specs.declared.Nco.{Nco}

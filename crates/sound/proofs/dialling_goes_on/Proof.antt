@@ -1,6 +1,6 @@
 -- `dialling_goes_on` meets its contract: the digit at n tells. Assumes nothing.
 use native.Mathlib.Omega.{arith}
-use Prim.Native.Nat.{ℕ, _^_, _≤_}
+use Prim.Native.Nat.{_^_, _≤_}
 use Rattle.sound.proofs.Dialling.{goes-on}
 use Rattle.sound.proofs.Limits.{rate-low, rate-high}
 use borrow.Author.Needs.{needs}
