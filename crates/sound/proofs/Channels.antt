@@ -1,0 +1,118 @@
+-- A sound channel is sound after a sample, and a fresh one is: the symbol phase stays in [0, 1), since the step, which `==` compares, is 300 / r itself, and a bit's tone is one of two. Assumes nothing.
+use mathlib.Core.Path.{_≡_, refl, sym, subst}
+use mathlib.Core.Bool.{Bool, true, false, _&&_}
+use mathlib.Core.List.{List}
+use Prim.Native.Nat.{ℕ, zero, suc, _+_, _*_, _^_, _≤_, _<_}
+use native.Mathlib.Nat.{le-of-lt, zero-mul}
+use native.Mathlib.Omega.{arith}
+use lib.Dec.{T, lit≤}
+use lib.Pow.{pow-pos}
+use lib.Ieee.{Float, binary64, eq}
+use lib.Ieee.Fits.{and-l, and-r, and-i, div-fits}
+use Rattle.math.specs.Float.{ofNat}
+use Rattle.math.proofs.Error.{Rounded, round-at}
+use Rattle.math.proofs.Values.{nat-value, div-by}
+use Rattle.nco.specs.declared.Nco.{Nco}
+use Rattle.nco.specs.Nco.{steppedNco}
+use Rattle.frame.specs.Frame.{bitAt}
+use Rattle.schedule.specs.Time.{oneMore}
+use Rattle.schedule.specs.Symbols.{symbolStep, symbolEnds, nextPhase, inSymbol}
+use Rattle.schedule.proofs.Count.{one-more-is}
+use Rattle.schedule.proofs.Samples.{rate-value}
+use Rattle.schedule.proofs.SymbolPhase.{zero-in-symbol, phase-stays}
+use Rattle.fsk.specs.declared.FskChannel.{FskChannel}
+use Rattle.fsk.specs.Channel.{toneOf, freshChannel, doneNext, ncoNext, nextChannel}
+use Rattle.sound.specs.Sound.{ncoOk, fskOk}
+use Rattle.sound.specs.Held.{Double, HeldNco, HeldFsk}
+use Rattle.sound.proofs.Equal.{eq-self, equal}
+use Rattle.sound.proofs.Held.{stepped-held}
+use Rattle.sound.proofs.Oscillators.{Hertz, fresh-ok, stepped-ok, retuned-ok}
+
+tone-hertz : (bit : Bool) → Hertz (toneOf bit)
+tone-hertz true = record { count = 980; value = nat-value 980 (lit≤ tt); most = lit≤ tt }
+tone-hertz false = record { count = 1180; value = nat-value 1180 (lit≤ tt); most = lit≤ tt }
+
+-- the bits done after a sample are at most one more
+pub done-at-most : (b : Bool) (k N : ℕ) → k < N → N ≤ 300 → doneNext b k ≤ N
+done-at-most true k N h B = subst (λ (z : ℕ). z ≤ N) (sym (one-more-is k (few k N h B))) (next k N h)
+  where
+    few : (k N : ℕ) → k < N → N ≤ 300 → k < 0xffff_ffff
+    few k N h B = omega arith
+
+    next : (k N : ℕ) → k < N → k + 1 ≤ N
+    next k N h = omega arith
+done-at-most false k N h B = le-of-lt h
+
+module _ (r : ℕ) (lo : 8000 ≤ r) (hi : r ≤ 192000) where
+  step-rounded : Rounded 62 5 300 r (symbolStep r)
+  unfolding symbolStep
+  step-rounded = subst (Rounded 62 5 300 r) (sym (div-by binary64 (ofNat 300) (ofNat r) 300 r 1 (pow-pos 0) (pos-of lo) (nat-value 300 (lit≤ tt)) (rate-value r hi))) (round-at 10 1012 5 300 r refl (pos-of lo) (wide hi) (fine lo) (lit≤ tt))
+    where
+      pos-of : 8000 ≤ r → 0 < r
+      pos-of h = omega arith
+
+      wide : r ≤ 192000 → r ≤ 300 * 2 ^ 10
+      wide h = omega arith
+
+      fine : 8000 ≤ r → 300 * 2 ^ 10 < 2 ^ 6 * r
+      fine h = omega arith
+
+  step-pos : 0 < step-rounded .at
+  step-pos = go (step-rounded .at) (step-rounded .under)
+    where
+      none : (x : ℕ) → x ≡ 0 → 2 * (300 * 2 ^ 62) ≤ 2 * x + r * 2 ^ 5 → ⊥
+      none x e h = omega arith
+
+      go : (S : ℕ) → 2 * (300 * 2 ^ 62) ≤ 2 * (S * r) + r * 2 ^ 5 → 0 < S
+      go zero h = absurd (none (0 * r) (zero-mul r) h)
+      go (suc S) h = omega arith
+
+  step-held : Double (symbolStep r)
+  unfolding symbolStep
+  step-held = div-fits binary64 (ofNat 300) (ofNat r)
+
+  step-is : (x : Float) → Double x → T (eq x (symbolStep r)) → x ≡ symbolStep r
+  step-is x h e = equal x (symbolStep r) (step-rounded .at) (2 ^ 62) step-pos (pow-pos 62) (step-rounded .value) h step-held e
+
+  -- the test's three parts
+  record Parts (f : FskChannel) : Type 0 where
+    nco : T (ncoOk (f .nco) r)
+    phase : T (inSymbol (f .phase))
+    step : T (eq (f .step) (symbolStep r))
+
+  parts : (f : FskChannel) → T (fskOk f r) → Parts f
+  unfolding fskOk
+  parts f k =
+      let rest = and-r (ncoOk (f .nco) r) (inSymbol (f .phase) && eq (f .step) (symbolStep r)) k in
+      record {
+        nco = and-l (ncoOk (f .nco) r) (inSymbol (f .phase) && eq (f .step) (symbolStep r)) k;
+        phase = and-l (inSymbol (f .phase)) (eq (f .step) (symbolStep r)) rest;
+        step = and-r (inSymbol (f .phase)) (eq (f .step) (symbolStep r)) rest;
+      }
+
+  made : (f : FskChannel) → Parts f → T (fskOk f r)
+  unfolding fskOk
+  made f p = and-i (ncoOk (f .nco) r) (inSymbol (f .phase) && eq (f .step) (symbolStep r)) (p .nco) (and-i (inSymbol (f .phase)) (eq (f .step) (symbolStep r)) (p .phase) (p .step))
+
+  pub fresh-channel-ok : (payload : List ℕ) → T (fskOk (freshChannel payload r) r)
+  unfolding freshChannel
+  fresh-channel-ok payload =
+      made _ (record {
+        nco = fresh-ok r lo hi (toneOf (bitAt payload 0)) (tone-hertz (bitAt payload 0));
+        phase = zero-in-symbol;
+        step = eq-self (symbolStep r) false (step-rounded .at) (2 ^ 62) (step-rounded .value);
+      })
+
+  nco-next-ok : (b : Bool) (o : Nco) (payload : List ℕ) (k : ℕ) → HeldNco o → T (ncoOk o r) → T (ncoOk (ncoNext b o payload k) r)
+  nco-next-ok true o payload k h t = retuned-ok r lo hi (steppedNco o) (toneOf (bitAt payload k)) (tone-hertz (bitAt payload k)) (stepped-held o h) (stepped-ok r lo hi o h t)
+  nco-next-ok false o payload k h t = stepped-ok r lo hi o h t
+
+  pub channel-ok : (f : FskChannel) (payload : List ℕ) → HeldFsk f → T (fskOk f r) → T (fskOk (nextChannel f payload) r)
+  unfolding nextChannel
+  channel-ok f payload h k =
+      let p = parts f k in
+      made _ (record {
+        nco = nco-next-ok (symbolEnds (f .step) (f .phase)) (f .nco) payload (oneMore (f .done)) (h .nco) (p .nco);
+        phase = subst (λ (s : Float). T (inSymbol (nextPhase s (f .phase)))) (sym (step-is (f .step) (h .step) (p .step))) (phase-stays r lo hi (f .phase) (h .phase) (p .phase));
+        step = p .step;
+      })

@@ -1,0 +1,9 @@
+pub mod Limits
+pub mod Parts
+pub mod Dialling
+pub mod Equal
+pub mod Held
+pub mod Oscillators
+pub mod Channels
+pub mod Enter
+pub mod Next
