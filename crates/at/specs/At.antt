@@ -2,6 +2,7 @@
 use Prim.Native.Nat.{ℕ}
 use mathlib.Core.List.{List, []}
 use mathlib.Core.Bool.{Bool, true, false, _&&_, not}
+use lib.ListN.{drop}
 use lib.Dec.{eqb}
 use Rattle.command.specs.Line.{emptyLine, typed, pushed, uppercased}
 use Rattle.command.specs.Command.{commandOf}
@@ -47,6 +48,10 @@ sentIf false p byte = released p byte
 
 unfoldable pub sent : AtProcessor → ℕ → List ℕ
 sent p byte = sentIf (commandMode p) p byte
+
+-- a dial line's bytes after ATDT, uppercased
+abbrev pub afterAtdt : Fed → List ℕ
+afterAtdt fed = drop 4 (typed (fed .line))
 
 -- a lapse of time: data mode's idle and escape; then, in either mode, the carrier
 unfoldable pub lapse : AtProcessor → ℕ → Bool → Outcome

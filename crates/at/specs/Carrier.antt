@@ -8,12 +8,8 @@ use Rattle.reply.specs.declared.Code.the-variants.{Connect, NoCarrier}
 use Rattle.at.specs.declared.AtProcessor.{AtProcessor}
 use Rattle.at.specs.declared.Control.the-variants.{Nothing, Hangup}
 use Rattle.at.specs.declared.Outcome.{Outcome}
-use Rattle.at.specs.Processor.{commandMode, seen, downTime, withMode, withEscape, withCarrier, added}
+use Rattle.at.specs.Processor.{commandMode, seen, downTime, withMode, withEscape, withCarrier, holdTime, added}
 use Rattle.at.specs.Answer.{outcome}
-
--- 700 ms
-abbrev pub holdTime : ℕ
-holdTime = 700_000_000
 
 -- CONNECT 300 in data mode
 abbrev pub connectIf : Bool → Reply

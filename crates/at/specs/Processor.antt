@@ -81,9 +81,13 @@ fresh =
       «carrier_down_for» = 0;
     }
 
+-- 700 ms
+abbrev pub holdTime : ℕ
+holdTime = 700_000_000
+
 -- line <= 80; pluses <= 3; down time < 700 ms
 unfoldable pub sound : AtProcessor → Bool
-sound p = leb (lineOf p .len) 80 && (leb (pluses p) 3 && ltb (downTime p) 700_000_000)
+sound p = leb (lineOf p .len) 80 && (leb (pluses p) 3 && ltb (downTime p) holdTime)
 
 -- online: data mode, pluses and idle zero
 abbrev pub online : AtProcessor → AtProcessor

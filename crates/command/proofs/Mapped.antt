@@ -3,8 +3,8 @@
 use Prim.Native.Nat.{ℕ, _+_, _<_, _≤_}
 use native.Mathlib.Numerals.{add-one}
 use native.Mathlib.Omega.{arith}
-use mathlib.Core.Path.{_≡_, sym, _∙_}
-use mathlib.Core.List.{List, _∷_, _++_, map, append-assoc, append-nil}
+use mathlib.Core.Path.{_≡_}
+use mathlib.Core.List.{List, _++_, map, append-assoc, append-nil}
 use lib.ListN.{length, take, drop, set, getD, drop-of-length-le}
 use lib.Seq.{take-suc-set, drop-set-lt, drop-cons, take-all}
 

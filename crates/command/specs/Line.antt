@@ -1,9 +1,9 @@
 -- 01, "The AT processor": the command line. Lines have at most 80 bytes.
 use Prim.Native.Nat.{ℕ, _+_, _-_}
-use mathlib.Core.List.{List, [], _∷_, map}
+use mathlib.Core.List.{List, map}
 use mathlib.Core.Bool.{Bool, true, false, _&&_}
-use lib.ListN.{length, take, set, replicate}
-use lib.Dec.{leb, ltb, eqb}
+use lib.ListN.{take, set, replicate}
+use lib.Dec.{leb, ltb}
 use Rattle.command.specs.declared.Line.{Line}
 
 abbrev pub emptyLine : Line

@@ -6,7 +6,7 @@ use mathlib.Core.Path.{_≡_, refl}
 use mathlib.Core.List.{_++_}
 use lib.ListN.{length, drop, replicate, length-set}
 use borrow.Author.Fill.{fill-more}
-use Rattle.at.proofs.Sent.{closed}
+use Rattle.at.proofs.Outbox.{closed}
 use Rattle.at.proofs.send.Statement.{statement}
 use Rattle.at.proofs.send.Tie as tie
 

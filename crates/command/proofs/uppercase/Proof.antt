@@ -1,8 +1,6 @@
 -- `command::uppercase` meets its contract: the two tests are the definition's. Assumes nothing.
 use borrow.Author.Needs.{needs}
 use borrow.Author.Tests.{le-leb, lt-leb}
-use mathlib.Core.Path.{refl}
-use mathlib.Core.Bool.{Bool}
 use Rattle.command.specs.Line.{upper}
 use Rattle.command.proofs.uppercase.Statement.{statement}
 use Rattle.command.proofs.uppercase.Tie as tie

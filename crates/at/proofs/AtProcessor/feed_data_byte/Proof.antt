@@ -5,7 +5,7 @@ use mathlib.Core.Path.{sym, _∙_}
 use borrow.Author.Tests.{le-ltb, lt-ltb}
 use Rattle.at.specs.Escape.{dataByte}
 use Rattle.at.proofs.Few.{withheld-few}
-use Rattle.at.proofs.Sent.{outbox-withheld, outbox-sent, outbox-short}
+use Rattle.at.proofs.Outbox.{outbox-withheld, outbox-sent, outbox-short}
 use Rattle.at.proofs.AtProcessor.feed_data_byte.Statement.{statement}
 use Rattle.at.proofs.AtProcessor.feed_data_byte.Tie as tie
 
