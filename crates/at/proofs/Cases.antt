@@ -1,0 +1,87 @@
+-- 01, "Proving cases": those of the AT processor, computed by its definitions. Assumes nothing.
+use Prim.Native.Nat.{ℕ}
+use mathlib.Core.Path.{_≡_, refl}
+use mathlib.Core.List.{List, [], _∷_}
+use mathlib.Core.Bool.{true, false}
+use Rattle.reply.specs.declared.Code.the-variants.{NoCarrier, Error}
+use Rattle.reply.specs.declared.Reply.{Reply}
+use Rattle.reply.specs.declared.Reply.the-variants.{None, One}
+use Rattle.command.specs.Line.{pushed, upper, uppercased}
+use Rattle.command.specs.Command.{begins, is, commandOf}
+use Rattle.at.specs.declared.AtProcessor.{AtProcessor}
+use Rattle.at.specs.declared.Control.the-variants.{Dial}
+use Rattle.at.specs.declared.Fed.{Fed}
+use Rattle.at.specs.Processor.{fresh, pluses, online, withCarrier, added}
+use Rattle.at.specs.Command.{executed}
+use Rattle.at.specs.Escape.{withheld, released, dataByte, escaped, waited}
+use Rattle.at.specs.Carrier.{polled, downFor}
+use Rattle.at.specs.At.{ended, commandByte, typedByte, afterAtdt, sent, lapse}
+
+-- a line typed into a fresh processor
+pub typing : List ℕ → AtProcessor → AtProcessor
+typing [] p = p
+typing (byte ∷ bytes) p = typing bytes (typedByte p byte false 4 .processor)
+
+-- the answer to the CR after it
+pub answerTo : List ℕ → Fed
+unfolding typing typedByte commandByte ended pushed upper uppercased begins is commandOf executed
+answerTo line = typedByte (typing line fresh) 13 false 4
+
+-- ATDT12
+pub atdt12 : (answerTo (65 ∷ 84 ∷ 68 ∷ 84 ∷ 49 ∷ 50 ∷ []) .control ≡ Dial) × (afterAtdt (answerTo (65 ∷ 84 ∷ 68 ∷ 84 ∷ 49 ∷ 50 ∷ [])) ≡ 49 ∷ 50 ∷ [])
+unfolding answerTo
+atdt12 = (refl, refl)
+
+-- atdtabcdef: after ATDT stands ABCDEF, of which ABCD are keys
+pub atdtabcdef : (answerTo (97 ∷ 116 ∷ 100 ∷ 116 ∷ 97 ∷ 98 ∷ 99 ∷ 100 ∷ 101 ∷ 102 ∷ []) .control ≡ Dial) × (afterAtdt (answerTo (97 ∷ 116 ∷ 100 ∷ 116 ∷ 97 ∷ 98 ∷ 99 ∷ 100 ∷ 101 ∷ 102 ∷ [])) ≡ 65 ∷ 66 ∷ 67 ∷ 68 ∷ 69 ∷ 70 ∷ [])
+unfolding answerTo
+atdtabcdef = (refl, refl)
+
+-- ATDP1
+pub atdp1 : answerTo (65 ∷ 84 ∷ 68 ∷ 80 ∷ 49 ∷ []) .reply ≡ One Error
+unfolding answerTo
+atdp1 = refl
+
+-- AT DT1
+pub at-dt1 : answerTo (65 ∷ 84 ∷ 32 ∷ 68 ∷ 84 ∷ 49 ∷ []) .reply ≡ One Error
+unfolding answerTo
+at-dt1 = refl
+
+-- a lapse without a carrier, and the same followed by a plus
+pub after : ℕ → AtProcessor → AtProcessor
+unfolding lapse waited escaped polled downFor added
+after ns p = lapse p ns false .processor
+
+pub plusAfter : ℕ → AtProcessor → AtProcessor
+unfolding after typing typedByte dataByte withheld
+plusAfter ns p = typing (43 ∷ []) (after ns p)
+
+-- the bytes that such a plus sends
+pub sentAfter : ℕ → AtProcessor → List ℕ
+unfolding after sent released withheld
+sentAfter ns p = sent (after ns p) 43
+
+-- a plus at idle 1 s is withheld, at 999,999,999 ns sent
+pub first-plus : (sentAfter 1_000_000_000 (online fresh) ≡ []) × (sentAfter 999_999_999 (online fresh) ≡ 43 ∷ [])
+unfolding sentAfter
+first-plus = (refl, refl)
+
+-- the second plus 1,000,000,001 ns later: two sent, and neither opens an escape
+pub second-plus : (sentAfter 1_000_000_001 (plusAfter 1_000_000_000 (online fresh)) ≡ 43 ∷ 43 ∷ []) × (pluses (plusAfter 1_000_000_001 (plusAfter 1_000_000_000 (online fresh))) ≡ 0)
+unfolding sentAfter plusAfter
+second-plus = (refl, refl)
+
+-- a fourth plus: four sent
+pub fourth-plus : sentAfter 0 (plusAfter 0 (plusAfter 0 (plusAfter 1_000_000_000 (online fresh)))) ≡ 43 ∷ 43 ∷ 43 ∷ 43 ∷ []
+unfolding sentAfter plusAfter
+fourth-plus = refl
+
+-- a seen carrier that is down for so long
+pub downReply : ℕ → Reply
+unfolding lapse waited escaped polled downFor added
+downReply ns = lapse (withCarrier true 0 (online fresh)) ns false .reply
+
+-- 699,999,999 ns: none; 700,000,000: NO CARRIER
+pub down : (downReply 699_999_999 ≡ None) × (downReply 700_000_000 ≡ One NoCarrier)
+unfolding downReply
+down = (refl, refl)

@@ -1,0 +1,116 @@
+-- A sound processor stays sound: by a typed byte, a lapse of time and forced data mode, clause by clause of the definitions.
+-- Assumes nothing.
+use Prim.Native.Nat.{ℕ, _≤_, _<_, zero-le}
+use native.Mathlib.Omega.{arith}
+use mathlib.Core.Path.{_≡_, refl}
+use mathlib.Core.Bool.{Bool, true, false, _&&_, and-eq-true-iff}
+use lib.Dec.{leb, ltb, eqb, lit<}
+use borrow.Author.Tests.{leb-true, leb-false, ltb-true, le-leb, lt-ltb}
+use Rattle.command.specs.declared.Command.{Command}
+use Rattle.command.specs.declared.Command.the-variants.{At, Atz, Ati, Ata, Ath, Ato, Atdt, Unknown}
+use Rattle.command.specs.Line.{pushed, pushedIf}
+use Rattle.at.specs.declared.AtProcessor.{AtProcessor}
+use Rattle.at.specs.Processor.{commandMode, lineOf, pluses, seen, downTime, holdTime, sound, fresh, withEscape, added}
+use Rattle.at.specs.Command.{executed}
+use Rattle.at.specs.Escape.{guardTime, withheld, dataByte, dataByteIf, escaped, escapedIf, waited, waitedIf}
+use Rattle.at.specs.Carrier.{downFor, downIf, polled, polledIf}
+use Rattle.at.specs.At.{ended, endedIf, commandByte, commandByteIf, typedByte, typedByteIf, lapse, forcedData}
+use Rattle.at.proofs.Few.{withheld-few}
+
+pub record Sound (p : AtProcessor) : Type 0 where
+  pub line : lineOf p .len ≤ 80
+  pub held : pluses p ≤ 3
+  pub down : downTime p < holdTime
+
+pub parts : (p : AtProcessor) → sound p ≡ true → Sound p
+unfolding sound
+parts p e =
+    let (line, rest) = and-eq-true-iff (leb (lineOf p .len) 80) _ .0 e in
+    let (held, down) = and-eq-true-iff (leb (pluses p) 3) _ .0 rest in
+    record { line = leb-true _ _ line; held = leb-true _ _ held; down = ltb-true _ _ down }
+
+pub whole : (p : AtProcessor) → Sound p → sound p ≡ true
+unfolding sound
+whole p s = rw (le-leb _ _ (s .line), le-leb _ _ (s .held), lt-ltb _ _ (s .down))
+
+-- a typed byte keeps it
+
+kept-executed : (command : Command) (carrier : Bool) (p : AtProcessor) → Sound p → Sound (executed command carrier p .processor)
+unfolding executed
+kept-executed At carrier p s = s
+kept-executed Atz carrier p s = record { line = s .line; held = zero-le; down = s .down }
+kept-executed Ati carrier p s = s
+kept-executed Ata carrier p s = record { line = s .line; held = zero-le; down = s .down }
+kept-executed Ath carrier p s = record { line = s .line; held = s .held; down = s .down }
+kept-executed Ato true p s = record { line = s .line; held = zero-le; down = s .down }
+kept-executed Ato false p s = s
+kept-executed Atdt carrier p s = record { line = s .line; held = zero-le; down = s .down }
+kept-executed Unknown carrier p s = s
+
+kept-ended : (empty : Bool) (p : AtProcessor) (carrier : Bool) → Sound p → Sound (endedIf empty p carrier .processor)
+kept-ended true p carrier s = s
+kept-ended false p carrier s = kept-executed _ carrier _ (record { line = zero-le; held = s .held; down = s .down })
+
+kept-pushed : (p : AtProcessor) (byte : ℕ) (t : Bool) → ltb (lineOf p .len) 80 ≡ t → lineOf p .len ≤ 80 → pushedIf t (lineOf p) byte .len ≤ 80
+kept-pushed p byte true e l = omega (arith, ltb-true (lineOf p .len) 80 e)
+kept-pushed p byte false e l = l
+
+kept-command : (lf cr : Bool) (p : AtProcessor) (byte : ℕ) (carrier : Bool) → Sound p → Sound (commandByteIf lf cr p byte carrier .processor)
+unfolding ended pushed
+kept-command true cr p byte carrier s = s
+kept-command false true p byte carrier s = kept-ended (eqb (lineOf p .len) 0) p carrier s
+kept-command false false p byte carrier s = record { line = kept-pushed p byte (ltb (lineOf p .len) 80) refl (s .line); held = s .held; down = s .down }
+
+kept-data : (p : AtProcessor) (byte : ℕ) (w room : Bool) → withheld p byte ≡ w → Sound p → Sound (dataByteIf w room p .processor)
+kept-data p byte true room e s = record { line = s .line; held = omega (arith, withheld-few p byte e); down = s .down }
+kept-data p byte false true e s = record { line = s .line; held = zero-le; down = s .down }
+kept-data p byte false false e s = s
+
+kept-typed : (mode : Bool) (p : AtProcessor) (byte : ℕ) (carrier : Bool) (room : ℕ) → Sound p → Sound (typedByteIf mode p byte carrier room .processor)
+unfolding commandByte dataByte
+kept-typed true p byte carrier room s = kept-command (eqb byte 10) (eqb byte 13) p byte carrier s
+kept-typed false p byte carrier room s = kept-data p byte (withheld p byte) (ltb (pluses p) room) refl s
+
+pub sound-typed : (p : AtProcessor) (byte : ℕ) (carrier : Bool) (room : ℕ) → sound p ≡ true → sound (typedByte p byte carrier room .processor) ≡ true
+unfolding typedByte
+sound-typed p byte carrier room e = whole _ (kept-typed (commandMode p) p byte carrier room (parts p e))
+
+-- and so do a lapse and forced data mode
+
+kept-escaped : (t : Bool) (p : AtProcessor) → Sound p → Sound (escapedIf t p)
+kept-escaped true p s = record { line = s .line; held = zero-le; down = s .down }
+kept-escaped false p s = s
+
+kept-waited : (mode : Bool) (p : AtProcessor) (ns : ℕ) → Sound p → Sound (waitedIf mode p ns)
+unfolding escaped
+kept-waited true p ns s = s
+kept-waited false p ns s =
+    let idle = added (p .idle) ns in
+    kept-escaped (eqb (pluses p) 3 && leb guardTime idle) (withEscape (pluses p) idle p) (record { line = s .line; held = s .held; down = s .down })
+
+kept-down : (p : AtProcessor) (down : ℕ) (t : Bool) → leb holdTime down ≡ t → Sound p → Sound (downIf t p down .processor)
+kept-down p down true e s = record { line = s .line; held = zero-le; down = lit< tt }
+kept-down p down false e s = record { line = s .line; held = s .held; down = leb-false holdTime down e }
+
+kept-polled : (carrier mark : Bool) (p : AtProcessor) (ns : ℕ) → Sound p → Sound (polledIf carrier mark p ns .processor)
+unfolding downFor
+kept-polled true true p ns s = record { line = s .line; held = s .held; down = lit< tt }
+kept-polled true false p ns s = record { line = s .line; held = s .held; down = lit< tt }
+kept-polled false true p ns s =
+    let down = added (downTime p) ns in
+    kept-down p down (leb holdTime down) refl s
+kept-polled false false p ns s = s
+
+pub sound-lapse : (p : AtProcessor) (ns : ℕ) (carrier : Bool) → sound p ≡ true → sound (lapse p ns carrier .processor) ≡ true
+unfolding lapse waited polled
+sound-lapse p ns carrier e =
+    let q = waitedIf (commandMode p) p ns in
+    whole _ (kept-polled carrier (seen q) q ns (kept-waited (commandMode p) p ns (parts p e)))
+
+pub sound-forced : (p : AtProcessor) → sound p ≡ true → sound (forcedData p) ≡ true
+unfolding forcedData
+sound-forced p e = let s = parts p e in whole _ (record { line = s .line; held = zero-le; down = s .down })
+
+pub sound-fresh : sound fresh ≡ true
+unfolding sound
+sound-fresh = refl

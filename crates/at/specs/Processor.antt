@@ -1,0 +1,102 @@
+-- 01, "The AT processor" and "When a call is declined": the processor in 01's words, fresh, sound, and changed in one respect.
+use Prim.Native.Nat.{ℕ, _+_, _-_, _^_, min}
+use mathlib.Core.Bool.{Bool, true, false, _&&_}
+use lib.Dec.{leb, ltb}
+use Rattle.command.specs.declared.Line.{Line}
+use Rattle.command.specs.Line.{emptyLine}
+use Rattle.at.specs.declared.AtProcessor.{AtProcessor}
+
+-- true in command mode, false in data mode
+abbrev pub commandMode : AtProcessor → Bool
+commandMode p = p .«in_command_mode»
+
+abbrev pub lineOf : AtProcessor → Line
+lineOf p = p .«cmd_buf»
+
+abbrev pub pluses : AtProcessor → ℕ
+pluses p = p .«plus_count»
+
+-- the carrier-seen mark
+abbrev pub seen : AtProcessor → Bool
+seen p = p .«carrier_up»
+
+abbrev pub downTime : AtProcessor → ℕ
+downTime p = p .«carrier_down_for»
+
+abbrev pub withMode : Bool → AtProcessor → AtProcessor
+withMode mode p =
+    record {
+      «in_command_mode» = mode;
+      «cmd_buf» = lineOf p;
+      idle = p .idle;
+      «plus_count» = pluses p;
+      «carrier_up» = seen p;
+      «carrier_down_for» = downTime p;
+    }
+
+abbrev pub withLine : Line → AtProcessor → AtProcessor
+withLine line p =
+    record {
+      «in_command_mode» = commandMode p;
+      «cmd_buf» = line;
+      idle = p .idle;
+      «plus_count» = pluses p;
+      «carrier_up» = seen p;
+      «carrier_down_for» = downTime p;
+    }
+
+-- these pluses and this idle time
+abbrev pub withEscape : ℕ → ℕ → AtProcessor → AtProcessor
+withEscape held idle p =
+    record {
+      «in_command_mode» = commandMode p;
+      «cmd_buf» = lineOf p;
+      idle = idle;
+      «plus_count» = held;
+      «carrier_up» = seen p;
+      «carrier_down_for» = downTime p;
+    }
+
+-- this mark and this down time
+abbrev pub withCarrier : Bool → ℕ → AtProcessor → AtProcessor
+withCarrier mark down p =
+    record {
+      «in_command_mode» = commandMode p;
+      «cmd_buf» = lineOf p;
+      idle = p .idle;
+      «plus_count» = pluses p;
+      «carrier_up» = mark;
+      «carrier_down_for» = down;
+    }
+
+-- fresh: command mode
+abbrev pub fresh : AtProcessor
+fresh =
+    record {
+      «in_command_mode» = true;
+      «cmd_buf» = emptyLine;
+      idle = 0;
+      «plus_count» = 0;
+      «carrier_up» = false;
+      «carrier_down_for» = 0;
+    }
+
+-- 700 ms
+abbrev pub holdTime : ℕ
+holdTime = 700_000_000
+
+-- line <= 80; pluses <= 3; down time < 700 ms
+unfoldable pub sound : AtProcessor → Bool
+sound p = leb (lineOf p .len) 80 && (leb (pluses p) 3 && ltb (downTime p) holdTime)
+
+-- online: data mode, pluses and idle zero
+abbrev pub online : AtProcessor → AtProcessor
+online p = withMode false (withEscape 0 0 p)
+
+-- the carrier-seen mark cleared
+abbrev pub unseen : AtProcessor → AtProcessor
+unseen p = withCarrier false (downTime p) p
+
+-- nanoseconds, added up to the largest and no further
+unfoldable pub added : ℕ → ℕ → ℕ
+added a b = min (a + b) (2 ^ 64 - 1)

@@ -1,0 +1,36 @@
+-- A dial line begins with ATDT, for no other row of the commands gives it; its bytes after ATDT are a part of the array.
+-- Assumes nothing.
+use Prim.Native.Nat.{ℕ, _+_, _-_, _≤_}
+use native.Mathlib.Omega.{arith}
+use mathlib.Core.Path.{_≡_, refl}
+use mathlib.Core.List.{List}
+use mathlib.Core.Bool.{Bool, true, false, _||_}
+use lib.ListN.{length, take, drop}
+use lib.Seq.{take-add, drop-at, length-take-le}
+use Rattle.command.specs.declared.Command.the-variants.{At, Atz, Ati, Ata, Ath, Ato, Atdt, Unknown}
+use Rattle.command.specs.Command.{begins, is, AT, ATZ, ATI, ATA, ATH, ATH0, ATO, ATO0, ATDT, read, commandOf}
+use Rattle.command.proofs.Begins.{begins-long}
+
+last-row : (t1 t2 t3 t4 t5 t6 t7 : Bool) → read t1 At (read t2 Atz (read t3 Ati (read t4 Ata (read t5 Ath (read t6 Ato (read t7 Atdt Unknown)))))) ≡ Atdt → t7 ≡ true
+last-row true t2 t3 t4 t5 t6 t7 e = cc
+last-row false true t3 t4 t5 t6 t7 e = cc
+last-row false false true t4 t5 t6 t7 e = cc
+last-row false false false true t5 t6 t7 e = cc
+last-row false false false false true t6 t7 e = cc
+last-row false false false false false true t7 e = cc
+last-row false false false false false false true e = refl
+last-row false false false false false false false e = cc
+
+pub dial-long : (line : List ℕ) → commandOf line ≡ Atdt → 4 ≤ length line
+unfolding commandOf
+dial-long line e =
+    begins-long ATDT line
+    (last-row (is AT line) (is ATZ line) (is ATI line) (is ATA line) (is ATH line || is ATH0 line) (is ATO line || is ATO0 line) (begins ATDT line) e)
+
+part : (bytes : List ℕ) (k : ℕ) → 4 ≤ length bytes → drop 4 (take (4 + k) bytes) ≡ take k (drop 4 bytes)
+part bytes k l = rw (take-add 4 k bytes) (drop-at (take 4 bytes) _ 4 (length-take-le 4 bytes l))
+
+pub digits-part : (bytes : List ℕ) (len : ℕ) → 4 ≤ len → 4 ≤ length bytes → drop 4 (take len bytes) ≡ take (len - 4) (drop 4 bytes)
+digits-part bytes len h l =
+    let e : 4 + (len - 4) ≡ len = omega arith in
+    rw e at (part bytes (len - 4) l)

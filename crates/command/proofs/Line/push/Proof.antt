@@ -1,0 +1,23 @@
+-- `command::Line::push` meets its contract: the test is the definition's. Assumes nothing.
+use borrow.Author.Needs.{needs}
+use borrow.Author.Tests.{lt-ltb, le-ltb}
+use Rattle.command.specs.Line.{pushed}
+use Rattle.command.proofs.Line.push.Statement.{statement}
+use Rattle.command.proofs.Line.push.Tie as tie
+
+returns : tie.Need-returns
+unfolding pushed
+returns c = rw (le-ltb _ _ (c .if1 .taken))
+
+element-write-line : tie.Need-element-write-line
+element-write-line c = search needs
+
+add-line : tie.Need-add-line
+add-line c = search needs
+
+returns-2 : tie.Need-returns-2
+unfolding pushed
+returns-2 c = rw (lt-ltb _ _ (c .if1 .left))
+
+pub push-spec : {M : Type 1} → statement M
+push-spec = tie.close (tie.spec returns element-write-line add-line returns-2)

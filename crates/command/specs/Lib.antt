@@ -1,0 +1,3 @@
+-- The command line, and the commands.
+pub mod Line
+pub mod Command

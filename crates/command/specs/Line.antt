@@ -1,0 +1,34 @@
+-- 01, "The AT processor": the command line. Lines have at most 80 bytes.
+use Prim.Native.Nat.{ℕ, _+_, _-_}
+use mathlib.Core.List.{List, map}
+use mathlib.Core.Bool.{Bool, true, false, _&&_}
+use lib.ListN.{take, set, replicate}
+use lib.Dec.{leb, ltb}
+use Rattle.command.specs.declared.Line.{Line}
+
+abbrev pub emptyLine : Line
+emptyLine = record { bytes = replicate 80 0; len = 0 }
+
+-- the line's bytes
+abbrev pub typed : Line → List ℕ
+typed l = take (l .len) (l .bytes)
+
+-- one byte more; a full line stays, and the byte is one that 01 declines
+abbrev pub pushedIf : Bool → Line → ℕ → Line
+pushedIf true l b = record { bytes = set (l .bytes) (l .len) b; len = l .len + 1 }
+pushedIf false l b = l
+
+unfoldable pub pushed : Line → ℕ → Line
+pushed l b = pushedIf (ltb (l .len) 80) l b
+
+-- a to z become A to Z
+abbrev pub upperIf : Bool → ℕ → ℕ
+upperIf true b = b - 32
+upperIf false b = b
+
+unfoldable pub upper : ℕ → ℕ
+upper b = upperIf (leb 97 b && leb b 122) b
+
+-- the line, uppercased
+unfoldable pub uppercased : Line → Line
+uppercased l = record { bytes = map upper (l .bytes); len = l .len }

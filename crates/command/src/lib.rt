@@ -1,0 +1,134 @@
+// The command line: its bytes, the line uppercased, and which command it is.
+ghost use mathlib.Core.Path.{_≡_};
+ghost use Prim.Native.Nat.{_≤_, _<_};
+ghost use lib.ListN.{length};
+ghost use Rattle.command.specs.Line.{emptyLine, typed, pushed, upper, uppercased};
+ghost use Rattle.command.specs.Command.{begins, is, commandOf};
+
+// A command line: the first `len` of its bytes.
+pub struct Line {
+    pub bytes: [u8; 80],
+    pub len: usize,
+}
+
+// The kinds of command line.
+pub enum Command {
+    At,
+    Atz,
+    Ati,
+    Ata,
+    Ath,
+    Ato,
+    Atdt,
+    Unknown,
+}
+
+fn uppercase(byte: u8) -> u8
+    ensures { λ r. ⌜ r ≡ upper byte ⌝ }
+{
+    if byte < b'a' {
+        return byte;
+    }
+    if byte > b'z' {
+        return byte;
+    }
+    byte - 32
+}
+
+impl Line {
+    pub fn new() -> Self
+        ensures { λ r. ⌜ r ≡ emptyLine ⌝ }
+    {
+        Line {
+            bytes: [0; 80],
+            len: 0,
+        }
+    }
+
+    // One byte more. A full line stays as it is: 01 declines that byte before it comes here.
+    pub fn push(self, byte: u8) -> Self
+        ensures { λ r. ⌜ r ≡ pushed self byte ⌝ }
+    {
+        let at = self.len;
+        if 80 <= at {
+            return self;
+        }
+        let mut line = self;
+        line.bytes[at] = byte;
+        line.len = at + 1;
+        line
+    }
+
+    pub fn to_uppercase(self) -> Self
+        ensures { λ r. ⌜ r ≡ uppercased self ⌝ }
+    {
+        let mut bytes = self.bytes;
+        let mut i = 0;
+        while i < 80 {
+            bytes[i] = uppercase(bytes[i]);
+            i += 1;
+        }
+        Line {
+            bytes,
+            len: self.len,
+        }
+    }
+
+    fn starts_with(self, text: &[u8]) -> bool
+        requires { ⌜ length (now text) ≤ 80 ⌝ }
+        ensures { λ r. ⌜ r ≡ begins (now (text .entry)) (typed self) ⌝ }
+    {
+        let bytes = self.bytes;
+        let len = self.len;
+        if len < text.len() {
+            return false;
+        }
+        let mut i = 0;
+        while i < text.len() {
+            if bytes[i] != text[i] {
+                return false;
+            }
+            i += 1;
+        }
+        true
+    }
+
+    fn equals(self, text: &[u8]) -> bool
+        requires { ⌜ length (now text) < 80 ⌝ }
+        ensures { λ r. ⌜ r ≡ is (now (text .entry)) (typed self) ⌝ }
+    {
+        let len = self.len;
+        if len != text.len() {
+            return false;
+        }
+        self.starts_with(text)
+    }
+
+    // Which command an uppercased line is.
+    pub fn command(self) -> Command
+        ensures { λ r. ⌜ r ≡ commandOf (typed self) ⌝ }
+    {
+        if self.equals(b"AT") {
+            return Command::At;
+        }
+        if self.equals(b"ATZ") {
+            return Command::Atz;
+        }
+        if self.equals(b"ATI") {
+            return Command::Ati;
+        }
+        if self.equals(b"ATA") {
+            return Command::Ata;
+        }
+        if self.equals(b"ATH") | self.equals(b"ATH0") {
+            return Command::Ath;
+        }
+        if self.equals(b"ATO") | self.equals(b"ATO0") {
+            return Command::Ato;
+        }
+        if self.starts_with(b"ATDT") {
+            return Command::Atdt;
+        }
+        Command::Unknown
+    }
+}

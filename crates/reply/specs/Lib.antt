@@ -1,0 +1,3 @@
+-- The result codes' numbers and texts.
+pub mod Codes
+pub mod Texts

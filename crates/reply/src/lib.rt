@@ -1,0 +1,91 @@
+// The result codes and their texts. at.rs answers with strings; here a reply is codes, and a
+// writer puts a code's text into a buffer.
+ghost use mathlib.Core.Path.{_≡_};
+ghost use lib.ListN.{length};
+ghost use Rattle.reply.specs.Codes.{numberOf, firstOf, secondOf};
+ghost use Rattle.reply.specs.Texts.{textOf, put, putLength};
+
+pub enum Code {
+    Ok,
+    Connect,
+    NoCarrier,
+    Error,
+    Identification,
+}
+
+// Rust's `Option<Response>`: no command gives more than two lines.
+pub enum Reply {
+    None,
+    One(Code),
+    Two(Code, Code),
+}
+
+impl Code {
+    pub fn number(self) -> u8
+        ensures { λ r. ⌜ r ≡ numberOf self ⌝ }
+    {
+        match self {
+            Code::Ok => 1,
+            Code::Connect => 2,
+            Code::NoCarrier => 3,
+            Code::Error => 4,
+            Code::Identification => 5,
+        }
+    }
+}
+
+impl Reply {
+    // The number of the first code, 0 for none.
+    pub fn first(self) -> u8
+        ensures { λ r. ⌜ r ≡ firstOf self ⌝ }
+    {
+        match self {
+            Reply::None => 0,
+            Reply::One(code) => code.number(),
+            Reply::Two(code, _) => code.number(),
+        }
+    }
+
+    // The number of the second code, 0 for none.
+    pub fn second(self) -> u8
+        ensures { λ r. ⌜ r ≡ secondOf self ⌝ }
+    {
+        match self {
+            Reply::None => 0,
+            Reply::One(_) => 0,
+            Reply::Two(_, code) => code.number(),
+        }
+    }
+}
+
+// Writes the code's text at the front of `out` and answers its length. A short `out` or another
+// number gives 0 and leaves `out` as it was.
+pub fn write_reply(code: u8, out: &mut [u8]) -> usize
+    ensures { λ r. ⌜ r ≡ putLength (textOf code) (length (now (out .entry))) ⌝ }
+    ensures { λ _. ⌜ now (out .exit) ≡ put (textOf code) (now (out .entry)) ⌝ }
+{
+    match code {
+        1 => put_front(b"OK", out),
+        2 => put_front(b"CONNECT 300", out),
+        3 => put_front(b"NO CARRIER", out),
+        4 => put_front(b"ERROR", out),
+        5 => put_front(b"modem-core Bell 103 v1.0.0", out),
+        _ => 0,
+    }
+}
+
+// Copies `text` to the front of `out` where it fits whole.
+fn put_front(text: &[u8], out: &mut [u8]) -> usize
+    ensures { λ r. ⌜ r ≡ putLength (now (text .entry)) (length (now (out .entry))) ⌝ }
+    ensures { λ _. ⌜ now (out .exit) ≡ put (now (text .entry)) (now (out .entry)) ⌝ }
+{
+    if out.len() < text.len() {
+        return 0;
+    }
+    let mut i = 0;
+    while i < text.len() {
+        out[i] = text[i];
+        i += 1;
+    }
+    i
+}
