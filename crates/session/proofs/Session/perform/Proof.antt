@@ -1,0 +1,49 @@
+-- `Session::perform` meets its contract, by what `read` ensures of the buffer, the state and the stage shown. Assumes nothing.
+use native.Mathlib.Nat.{sub-zero}
+use mathlib.Core.Path.{_≡_}
+use lib.ListN.{length}
+use native.Mathlib.Omega.{arith}
+use borrow.Author.Needs.{needs}
+use Rattle.session.proofs.Session.perform.Statement.{statement}
+use Rattle.session.proofs.Session.perform.Tie as tie
+
+cast-b : tie.Need-cast-b
+cast-b c = search needs
+
+sub-read : tie.Need-sub-read
+sub-read c = search needs
+
+part-read-start : tie.Need-part-read-start
+part-read-start c = search needs
+
+part-read-end : tie.Need-part-read-end
+part-read-end c =
+    let h : length (c .before .before .before .before .args .self .digits .keys) ≡ 76 = search needs in
+    omega (arith, c .before .before .before .before .pre .2)
+
+read-requires : tie.Need-read-requires
+read-requires c κs = search needs
+
+showing-requires : tie.Need-showing-requires
+showing-requires c κs = search needs
+
+same-length : tie.Need-same-length
+same-length c = search needs
+
+returns : tie.Need-returns
+returns c =
+    let r = c .before .before .before .read .ensures in
+    (rw (c .showing .ensures, r .1 .1, r .1 .0, sub-zero), rw sub-zero at (r .0))
+
+pub perform-spec : {M : Type 1} → statement M
+perform-spec =
+    tie.close
+    (tie.spec
+    cast-b
+    sub-read
+    part-read-start
+    part-read-end
+    read-requires
+    showing-requires
+    same-length
+    returns)

@@ -1,0 +1,230 @@
+// One end of a call: where it is in the call, what was dialled, and the overture while it plays.
+use keys::Digits;
+use stage::Stage;
+use stage::StageState;
+ghost use mathlib.Core.Path.{_≡_};
+ghost use Prim.Native.Nat.{_+_, _≤_, _<_, _^_};
+ghost use lib.ListN.{length, take};
+ghost use Rattle.schedule.specs.Length.{total};
+ghost use Rattle.schedule.specs.Bounds.{TotalBounds};
+ghost use Rattle.passage.specs.Overture.{HasLength};
+ghost use Rattle.session.specs.Session.{stateNumber, digitsHeld, idle, answering, dialling, showing, filledIn, filled, writtenIn, written, zeros, ringOf, ringNumber};
+ghost use Rattle.session.specs.declared.SessionState.the-variants.{Dialling};
+
+pub enum SessionState {
+    Idle,
+    Dialling,
+    Answering,
+    Connected,
+}
+
+pub struct Session {
+    pub state: SessionState,
+    pub digits: Digits,
+    // samples written since the dial line
+    pub m: u32,
+    // the number of the stage shown; 0 for none
+    pub shown: u8,
+    pub stage: StageState,
+}
+
+impl SessionState {
+    // 01's number.
+    pub fn number(self) -> u8
+        ensures { λ r. ⌜ r ≡ stateNumber self ⌝ }
+    {
+        match self {
+            SessionState::Idle => 0,
+            SessionState::Dialling => 1,
+            SessionState::Answering => 2,
+            SessionState::Connected => 3,
+        }
+    }
+}
+
+// Zeros in the whole buffer.
+pub fn silence(out: &mut [f32])
+    ensures { λ _. ⌜ now (out .exit) ≡ zeros (length (now (out .entry))) ⌝ }
+{
+    let mut i: usize = 0;
+    while i < out.len() {
+        out[i] = 0.0;
+        i += 1;
+    }
+}
+
+fn ring(stage: StageState) -> u8
+    ensures { λ r. ⌜ r ≡ ringOf stage ⌝ }
+{
+    match stage {
+        StageState::Ringback {
+            a: _,
+            b: _,
+            n: _,
+            ring,
+        } => ring,
+        StageState::OffHook { rng: _, n: _ } => 0,
+        StageState::DialTone { a: _, b: _, n: _ } => 0,
+        StageState::Dialling {
+            digit_i: _,
+            in_tone: _,
+            a: _,
+            b: _,
+            n: _,
+        } => 0,
+        StageState::Ci(_) => 0,
+        StageState::Ansam {
+            carrier: _,
+            env: _,
+            n: _,
+        } => 0,
+        StageState::CmJm(_) => 0,
+        StageState::Cj {
+            fsk: _,
+            silence_n: _,
+        } => 0,
+        StageState::Training(_) => 0,
+        StageState::Connected => 0,
+    }
+}
+
+impl Session {
+    pub fn new() -> Session
+        ensures { λ r. ⌜ r ≡ idle ⌝ }
+    {
+        Session::hangup()
+    }
+
+    // Starts the overture for the line's bytes after ATDT. At a rate of 01 it has one length, T, with demand 3's bounds.
+    pub fn dial(line: &[u8], rate: u32) -> Session
+        ensures { λ r. ⌜ r ≡ dialling (now (line .entry)) rate ⌝ }
+        ensures { λ r. ⌜ (8000 ≤ rate → rate ≤ 192000 → HasLength (digitsHeld r) rate (total rate (r .digits .len))) ⌝ }
+        ensures { λ r. ⌜ (8000 ≤ rate → rate ≤ 192000 → TotalBounds rate (r .digits .len)) ⌝ }
+    {
+        let digits = keys::dialled(line);
+        let keys = digits.keys;
+        let len = digits.len;
+        let from: usize = 0;
+        let stage = stage::enter_state(Stage::OffHook, &keys[from..len], rate);
+        Session {
+            state: SessionState::Dialling,
+            digits,
+            m: 0,
+            shown: 0,
+            stage,
+        }
+    }
+
+    pub fn answer() -> Session
+        ensures { λ r. ⌜ r ≡ answering ⌝ }
+    {
+        let digits = Digits {
+            keys: [0u8; 76],
+            len: 0,
+        };
+        Session {
+            state: SessionState::Answering,
+            digits,
+            m: 0,
+            shown: 0,
+            stage: StageState::Connected,
+        }
+    }
+
+    pub fn hangup() -> Session
+        ensures { λ r. ⌜ r ≡ idle ⌝ }
+    {
+        let digits = Digits {
+            keys: [0u8; 76],
+            len: 0,
+        };
+        Session {
+            state: SessionState::Idle,
+            digits,
+            m: 0,
+            shown: 0,
+            stage: StageState::Connected,
+        }
+    }
+
+    // The session after a fill in Dialling, whose shown stage and next state are given.
+    fn showing(self, shown: Stage, b: u32, next: StageState) -> Session
+        requires { ⌜ self .m + b < 2 ^ 32 ⌝ }
+        ensures { λ r. ⌜ r ≡ showing self shown b next ⌝ }
+    {
+        let digits = self.digits;
+        let number = shown.number();
+        let m = self.m + b;
+        if number == 10 {
+            return Session {
+                state: SessionState::Connected,
+                digits,
+                m,
+                shown: 0,
+                stage: next,
+            };
+        }
+        Session {
+            state: SessionState::Dialling,
+            digits,
+            m,
+            shown: number,
+            stage: next,
+        }
+    }
+
+    // A fill in Dialling: the overture's next samples.
+    fn perform(self, rate: u32, out: &mut [f32]) -> Session
+        requires { ⌜ (length (now out) ≤ 65536) × (self .m ≤ 5000000) × (self .digits .len ≤ 76) ⌝ }
+        ensures { λ r. ⌜ r ≡ filledIn Dialling self (length (now (out .entry))) rate ⌝ }
+        ensures { λ _. ⌜ now (out .exit) ≡ writtenIn Dialling self (length (now (out .entry))) rate ⌝ }
+    {
+        let digits = self.digits;
+        let keys = digits.keys;
+        let len = digits.len;
+        let stage = self.stage;
+        let from: usize = 0;
+        let b = out.len() as u32;
+        let w = overture::read(stage, &keys[from..len], rate, out);
+        let shown = w.stage;
+        let next = w.state;
+        self.showing(shown, b, next)
+    }
+
+    // A fill. In Connected, which 01 declines before it comes here, it writes zeros.
+    pub fn process_out(self, rate: u32, out: &mut [f32]) -> Session
+        requires { ⌜ (length (now out) ≤ 65536) × (self .m ≤ 5000000) × (self .digits .len ≤ 76) ⌝ }
+        ensures { λ r. ⌜ r ≡ filled self (length (now (out .entry))) rate ⌝ }
+        ensures { λ _. ⌜ now (out .exit) ≡ written self (length (now (out .entry))) rate ⌝ }
+    {
+        let state = self.state;
+        match state {
+            SessionState::Dialling => self.perform(rate, out),
+            SessionState::Idle => {
+                silence(out);
+                self
+            }
+            SessionState::Answering => {
+                silence(out);
+                self
+            }
+            SessionState::Connected => {
+                silence(out);
+                self
+            }
+        }
+    }
+
+    pub fn ring_number(self) -> u8
+        ensures { λ r. ⌜ r ≡ ringNumber self ⌝ }
+    {
+        let state = self.state;
+        let stage = self.stage;
+        match state {
+            SessionState::Dialling => ring(stage),
+            SessionState::Idle => 0,
+            SessionState::Answering => 0,
+            SessionState::Connected => 0,
+        }
+    }
+}
