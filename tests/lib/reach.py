@@ -1,0 +1,301 @@
+"""Counts which of 01's rules a script reached, from its lines and the oracle's answers.
+
+01 in Python (paper.py) is stepped beside the answers: it tells what stood before a call,
+and it has to give the same answers.
+"""
+
+from collections import Counter
+
+import paper
+from paper import (
+    ANSWERING, CARRIER_HOLD, CONNECTED, CR, DIALLING, IDLE, LARGEST_U64, LF, LINE_LIMIT, PLUS, SECOND,
+)
+
+STATE_NAMES = ("Idle", "Dialling", "Answering", "Connected")
+
+
+class Disagreement(Exception):
+    """The oracle's answer is not 01's."""
+
+
+def count(script, answers, extended=False):
+    """The counts for a script and what the oracle printed for it with --bits."""
+    reached = Counter()
+    wall = paper.Wall()
+    rows = answers.decode("ascii").splitlines()
+    at = 0
+    for number, line in enumerate(paper.lines_of(script), 1):
+        call = paper.parsed(line, extended)
+        if call is None:
+            reached["other line"] += 1
+            continue
+        if at + 2 > len(rows):
+            raise Disagreement(f"line {number} {line!r}: no answer")
+        before = Before(wall.set)
+        expected, facts = wall.answer(call), wall.facts()
+        row, second = rows[at], rows[at + 1]
+        at += 2
+        if row != expected or not (second == facts or second.startswith(facts + " n=")):
+            raise Disagreement(f"line {number} {line!r}: {row} / {second}, by 01 {expected} / {facts}")
+        note_answer(reached, call, row.split(","), wall.set)
+        NOTES[call[0]](reached, before, call[1], wall.set, row.split(","))
+    if at != len(rows):
+        raise Disagreement(f"{len(rows) - at} lines too many")
+    return reached
+
+
+class Before:
+    """What a call found."""
+
+    def __init__(self, s):
+        self.__dict__.update(vars(s))
+        self.next_stage = 0
+        self.ends = ()
+        if s.state == DIALLING:
+            self.ends = paper.stage_ends(len(s.digits), s.rate)
+            self.next_stage = paper.stage_of(s.m + 1, len(s.digits), s.rate)
+
+
+def note_answer(reached, call, row, after):
+    refusal, mode, state, stage, _, first, second = row
+    reached[f"refusal {refusal}"] += 1
+    reached[f"mode {mode}"] += 1
+    reached[f"state {state}"] += 1
+    reached[f"stage {stage}"] += 1
+    reached[f"codes {first},{second} on {call[0]}"] += 1
+    reached[f"ring {after.ring()}"] += 1
+
+
+def note_create(reached, before, numbers, after, row):
+    rate = numbers[0]
+    if rate < paper.LOWEST_RATE:
+        reached["rate too low"] += 1
+    elif rate > LARGEST_U64:
+        reached["rate too long"] += 1
+    elif rate > paper.HIGHEST_RATE:
+        reached["rate too high"] += 1
+    elif rate in (8_000, 11_025, 44_100, 48_000, 96_000, 192_000):
+        reached[f"rate {rate}"] += 1
+    else:
+        reached["odd rate"] += 1
+    if before.state != IDLE:
+        reached["fresh set during a call"] += 1
+
+
+def note_typed(reached, before, numbers, after, row):
+    byte, carrier = numbers[:2]
+    where = "command" if before.command_mode else "data"
+    if row[0] == "2":
+        reached[f"outbox too short in {where} mode"] += 1
+        reached[f"outbox of {numbers[2]}"] += 1
+    elif not before.command_mode:
+        note_data_byte(reached, before, byte, after)
+    elif row[0] == "4":
+        reached["byte after a full line"] += 1
+    elif byte == LF:
+        reached["LF inside a line" if before.line else "LF before a line"] += 1
+        if len(before.line) == LINE_LIMIT:
+            reached["LF after a full line"] += 1
+    elif byte == CR:
+        note_command(reached, before, carrier, after, row)
+
+
+def note_data_byte(reached, before, byte, after):
+    if not after.sent:
+        reached[f"plus {after.pluses} withheld"] += 1
+        if before.idle == SECOND:
+            reached[f"plus {after.pluses} withheld at 1 s"] += 1
+        return
+    reached[f"byte sent in {STATE_NAMES[before.state]}"] += 1
+    if byte == LF:
+        reached["LF sent"] += 1
+    if before.pluses:
+        reached[f"{before.pluses} held pluses sent"] += 1
+    if byte == PLUS:
+        reached[f"{len(after.sent)} pluses sent"] += 1
+        if before.pluses == 0 and before.idle == SECOND - 1:
+            reached["plus sent 1 ns early"] += 1
+        if before.pluses in (1, 2) and before.idle == SECOND + 1:
+            reached[f"plus {before.pluses + 1} sent 1 ns late"] += 1
+        if before.pluses and before.idle >= SECOND:
+            reached["plus that broke an escape after a second"] += 1
+
+
+def note_command(reached, before, carrier, after, row):
+    if not before.line:
+        reached["CR on an empty line"] += 1
+        return
+    line = before.line.upper()
+    reached["lower case line"] += line != before.line
+    if len(line) >= LINE_LIMIT - 1:
+        reached[f"line of {len(line)} bytes"] += 1
+    known = (b"AT", b"ATZ", b"ATI", b"ATA", b"ATH", b"ATH0", b"ATO", b"ATO0", b"ATDP1", b"AT DT1", b"ATX")
+    name = STATE_NAMES[before.state]
+    if line in known:
+        reached[line.decode()] += 1
+    if line in (b"ATO", b"ATO0"):
+        reached[f"{line.decode()} {'online' if row[5] == '2' else 'ERROR'} in {name}"] += 1
+        if before.state == IDLE and carrier:
+            reached["ATO with the flag up in Idle"] += 1
+    if line == b"ATA":
+        reached[f"answer in {name}"] += 1
+    if line in (b"ATH", b"ATH0"):
+        reached[f"hang-up in {name}"] += 1
+    if not line.startswith(b"AT"):
+        reached["line without AT"] += 1
+    if line.startswith(b"ATDT"):
+        note_dial(reached, before, line, after)
+    elif before.seen and not after.seen:
+        reached["mark cleared by a command"] += 1
+
+
+def note_dial(reached, before, line, after):
+    reached["dial line"] += 1
+    reached[f"dial in {STATE_NAMES[before.state]}"] += 1
+    count = len(after.digits)
+    reached[f"{count} digits" if count in (0, 1, 2, 3, 76) else "other count of digits"] += 1
+    reached["byte that is no key"] += count < len(line) - 4
+    reached["lower case key"] += any(97 <= b <= 100 for b in before.line[4:])
+    for digit in after.digits:
+        reached[f"key {chr(digit)}"] += 1
+    if before.seen and before.down:
+        reached["dial line with the carrier down"] += 1
+
+
+def note_lapse(reached, before, numbers, after, row):
+    lapse, carrier = numbers
+    name = STATE_NAMES[before.state]
+    where = "command" if before.command_mode else "data"
+    if not before.command_mode and before.idle + lapse > LARGEST_U64:
+        reached["idle at its largest"] += 1
+    if before.pluses == 3:
+        idle = before.idle + lapse
+        if row[1] == "C" and row[5] != "3":
+            reached[f"escape in {name}"] += 1
+            reached["escape at 1 s"] += idle == SECOND
+        reached["escape 1 ns short"] += idle == SECOND - 1
+    if carrier and before.state == IDLE:
+        reached["carrier up in Idle"] += 1
+    elif carrier and not before.seen:
+        reached[f"carrier seen in {'command' if after.command_mode else 'data'} mode"] += 1
+        if where == "data" and after.command_mode:
+            reached["carrier seen as an escape ends"] += 1
+    elif carrier and before.down:
+        reached["down time zeroed"] += 1
+    elif before.seen and not carrier:
+        down = before.down + lapse
+        if row[5] == "3":
+            reached[f"carrier lost in {name}"] += 1
+            reached[f"carrier lost in {where} mode"] += 1
+            reached["carrier lost at 700 ms"] += down == CARRIER_HOLD
+            reached["carrier lost with pluses held"] += before.pluses > 0
+            reached["carrier lost with part of a line"] += len(before.line) > 0
+            reached["down time at its largest"] += down > LARGEST_U64
+        else:
+            reached["carrier kept at 699,999,999 ns"] += down == CARRIER_HOLD - 1
+            reached["down time in pieces"] += before.down > 0
+
+
+def note_fill(reached, before, numbers, after, row):
+    length = numbers[0]
+    name = STATE_NAMES[before.state]
+    if row[0] == "3":
+        reached[f"fill too long in {name}"] += 1
+        return
+    if row[0] == "5":
+        reached["empty fill in Connected" if length == 0 else "fill in Connected"] += 1
+        return
+    reached[f"{'empty fill' if length == 0 else 'fill'} in {name}"] += 1
+    reached["fill of 65,536"] += length == 65_536
+    if before.state == DIALLING:
+        note_overture(reached, before, length, after)
+
+
+def note_overture(reached, before, length, after):
+    reached["first fill empty"] += before.m == 0 and length == 0
+    end = before.ends[-1]
+    if after.state == CONNECTED:
+        if length == 0:
+            reached["line up by an empty fill at T"] += 1
+        elif before.m == end:
+            reached["line up by a fill from T"] += 1
+        else:
+            reached["line up by a fill over T"] += 1
+        reached["line up one past T"] += after.m == end + 1
+        return
+    if length == 0:
+        if before.m in before.ends:
+            reached[f"empty fill at the end of stage {before.ends.index(before.m) + 1}"] += 1
+        return
+    for stage, stage_end in enumerate(before.ends, 1):
+        for name, apart in (("one short of", -1), ("at", 0), ("one past", 1)):
+            if after.m == stage_end + apart:
+                reached[f"fill ends {name} the end of stage {stage}"] += 1
+    reached["fill over two stage ends"] += after.shown >= before.next_stage + 2
+
+
+def note_forced(reached, before, numbers, after, row):
+    reached["data mode forced"] += 1
+    reached["data mode forced inside a line"] += before.command_mode and len(before.line) > 0
+    reached["data mode forced with pluses held"] += before.pluses > 0
+
+
+NOTES = {"R": note_create, "T": note_typed, "W": note_lapse, "F": note_fill, "D": note_forced}
+
+
+# ---------------------------------------------------------------- what must be reached
+
+def must(extended):
+    """The names that have to be counted; those of --ext only where it is on."""
+    names = [f"refusal {n}" for n in (0, 1, 4, 5)]
+    names += ["mode C", "mode D", "other line"]
+    names += [f"state {n}" for n in range(4)] + [f"stage {n}" for n in range(10)] + [f"ring {n}" for n in range(3)]
+    names += [f"codes {c} on T" for c in ("0,0", "1,0", "2,0", "4,0", "5,1", "1,3")]
+    names += [f"codes {c} on W" for c in ("0,0", "2,0", "3,0")]
+    names += ["rate too low", "rate too high", "rate too long", "odd rate", "fresh set during a call"]
+    names += [f"rate {r}" for r in (8_000, 11_025, 44_100, 48_000, 96_000, 192_000)]
+    names += ["AT", "ATZ", "ATI", "ATA", "ATH", "ATH0", "ATO", "ATO0", "ATDP1", "AT DT1", "ATX", "line without AT"]
+    names += ["CR on an empty line", "LF inside a line", "LF before a line", "lower case line"]
+    names += ["line of 79 bytes", "line of 80 bytes", "byte after a full line", "LF after a full line"]
+    for state in STATE_NAMES:
+        names += [f"{what} in {state}" for what in ("answer", "hang-up", "dial", "byte sent", "empty fill", "escape")]
+        names += [f"{ato} ERROR in {state}" for ato in ("ATO", "ATO0")]
+    for state in STATE_NAMES[1:]:
+        names += [f"{what} in {state}" for what in ("ATO online", "ATO0 online", "carrier lost")]
+    names += ["ATO with the flag up in Idle", "mark cleared by a command"]
+    names += ["dial line", "byte that is no key", "lower case key", "dial line with the carrier down"]
+    names += [f"{n} digits" for n in (0, 1, 2, 3, 76)] + ["other count of digits"]
+    names += [f"key {k}" for k in "123A456B789C*0#D"]
+    names += [f"plus {n} withheld" for n in (1, 2, 3)] + [f"plus {n} withheld at 1 s" for n in (1, 2, 3)]
+    names += [f"{n} pluses sent" for n in (1, 2, 3, 4)] + [f"{n} held pluses sent" for n in (1, 2, 3)]
+    names += ["plus sent 1 ns early", "plus 2 sent 1 ns late", "plus 3 sent 1 ns late", "LF sent"]
+    names += ["plus that broke an escape after a second"]
+    names += ["escape at 1 s", "escape 1 ns short", "idle at its largest"]
+    names += ["carrier up in Idle", "carrier seen in command mode", "carrier seen in data mode"]
+    names += ["carrier seen as an escape ends", "down time zeroed", "down time in pieces", "down time at its largest"]
+    names += ["carrier kept at 699,999,999 ns", "carrier lost at 700 ms", "carrier lost in command mode"]
+    names += ["carrier lost in data mode", "carrier lost with pluses held", "carrier lost with part of a line"]
+    names += ["fill in Idle", "fill in Dialling", "fill in Answering", "fill in Connected", "first fill empty"]
+    names += [f"empty fill at the end of stage {n}" for n in range(1, 9)]
+    names += [f"fill ends at the end of stage {n}" for n in range(1, 10)]
+    names += [f"fill ends one short of the end of stage {n}" for n in range(1, 10)]
+    names += [f"fill ends one past the end of stage {n}" for n in range(1, 9)]
+    names += ["line up by an empty fill at T", "line up by a fill from T", "line up by a fill over T"]
+    names += ["line up one past T", "fill over two stage ends"]
+    names += ["data mode forced", "data mode forced inside a line", "data mode forced with pluses held"]
+    if extended:
+        names += ["refusal 2", "refusal 3", "outbox too short in command mode", "outbox too short in data mode"]
+        names += [f"outbox of {n}" for n in range(4)]
+        names += [f"fill too long in {state}" for state in STATE_NAMES] + ["fill of 65,536"]
+    return names
+
+
+def missing(reached, extended):
+    return [name for name in must(extended) if not reached[name]]
+
+
+def table(reached):
+    """The counts as text, in the order in which `must` names them, then the rest."""
+    named = must(True)
+    rest = sorted(name for name in reached if name not in set(named) and reached[name])
+    return "\n".join(f"{reached[name]:>8}  {name}" for name in named + rest)

@@ -1,0 +1,60 @@
+//! The lines of 01's program `wall`, read strictly: a letter, then fields of decimal
+//! digits, each after a comma. A line that is none of the five is `None`.
+
+use core::time::Duration;
+
+pub enum Call {
+    Create { rate: u128 },
+    Type { byte: u8, carrier: bool, outbox: usize },
+    Lapse { time: Duration, carrier: bool },
+    Fill { length: usize },
+    ForceData,
+}
+
+const WIDEST_OUTBOX: u128 = 16;
+
+/// With `extended`, a T line may give the outbox length and fills may be longer.
+pub fn read_line(line: &[u8], extended: bool) -> Option<Call> {
+    let mut parts = line.split(|&b| b == b',');
+    let letter = parts.next()?;
+    let fields = parts.map(number).collect::<Option<Vec<u128>>>()?;
+    let longest_fill = if extended { 70_000 } else { 16_384 };
+    match (letter, fields.as_slice()) {
+        (b"R", &[rate]) => Some(Call::Create { rate }),
+        (b"T", &[byte, carrier]) => typed(byte, carrier, WIDEST_OUTBOX),
+        (b"T", &[byte, carrier, outbox]) if extended => typed(byte, carrier, outbox),
+        (b"W", &[nanos, carrier]) => Some(Call::Lapse {
+            time: Duration::from_nanos(u64::try_from(nanos).ok()?),
+            carrier: flag(carrier)?,
+        }),
+        (b"F", &[length]) if length <= longest_fill => Some(Call::Fill { length: length as usize }),
+        (b"D", &[]) => Some(Call::ForceData),
+        _ => None,
+    }
+}
+
+fn typed(byte: u128, carrier: u128, outbox: u128) -> Option<Call> {
+    if outbox > WIDEST_OUTBOX {
+        return None;
+    }
+    let byte = u8::try_from(byte).ok()?;
+    Some(Call::Type { byte, carrier: flag(carrier)?, outbox: outbox as usize })
+}
+
+fn flag(n: u128) -> Option<bool> {
+    match n {
+        0 => Some(false),
+        1 => Some(true),
+        _ => None,
+    }
+}
+
+/// One digit or more. A number too long for the type stays at its largest value,
+/// which is over every limit.
+fn number(field: &[u8]) -> Option<u128> {
+    if field.is_empty() || !field.iter().all(u8::is_ascii_digit) {
+        return None;
+    }
+    let larger = |n: u128, digit: &u8| n.saturating_mul(10).saturating_add((digit - b'0') as u128);
+    Some(field.iter().fold(0, larger))
+}

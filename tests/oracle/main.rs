@@ -1,0 +1,158 @@
+//! The judge of behaviour: at.rs, overture.rs, nco.rs, frame.rs and session.rs unchanged,
+//! with 01's five stand-ins, behind the lines of 01's program `wall`.
+//!
+//! oracle [--bits] [--ext] < lines
+//!
+//! --bits adds a line to each answer: ring, bytes sent and, for a fill, its samples.
+//! --ext lets T lines give the outbox length and fills be longer than `wall` allows.
+
+// The Rust is compiled as it is; what 01 leaves out of it is never called.
+#![allow(dead_code)]
+
+extern crate alloc;
+
+mod at;
+mod frame;
+mod nco;
+mod overture;
+#[path = "session.rs"]
+mod rust_session;
+
+mod left_out;
+mod lines;
+mod set;
+#[path = "stand_in.rs"]
+mod session;
+
+use left_out::{link, rx, tx};
+use lines::{read_line, Call};
+use set::{Answer, Set};
+use std::io::{self, BufRead, BufReader, BufWriter, Write};
+
+pub const VERSION: &str = "1.0.0";
+pub const BAUD: f64 = 300.0;
+
+#[derive(Clone, Copy)]
+pub enum Role {
+    Originate,
+    Answer,
+}
+
+#[derive(Clone, Copy)]
+pub enum Duplex {
+    Full,
+    HalfPingPong,
+}
+
+#[derive(Clone, Copy)]
+pub struct Config {
+    pub sample_rate: u32,
+    pub role: Role,
+    pub duplex: Duplex,
+}
+
+/// What a buffer holds before its fill, so that a declined one can be told.
+const UNTOUCHED: u32 = 0x3F9D_70A4;
+
+fn main() -> io::Result<()> {
+    let mut bits = false;
+    let mut extended = false;
+    for argument in std::env::args().skip(1) {
+        match argument.as_str() {
+            "--bits" => bits = true,
+            "--ext" => extended = true,
+            _ => {
+                eprintln!("usage: oracle [--bits] [--ext] < lines");
+                std::process::exit(2);
+            }
+        }
+    }
+    run(bits, extended)
+}
+
+fn run(bits: bool, extended: bool) -> io::Result<()> {
+    let mut input = BufReader::new(io::stdin().lock());
+    let mut output = BufWriter::new(io::stdout().lock());
+    let (_, mut set) = Set::new(set::LOWEST_RATE);
+    let mut line = Vec::new();
+    loop {
+        // Whoever waits for an answer before the next line gets it.
+        if !input.buffer().contains(&b'\n') {
+            output.flush()?;
+        }
+        line.clear();
+        if input.read_until(b'\n', &mut line)? == 0 {
+            return output.flush();
+        }
+        if line.last() == Some(&b'\n') {
+            line.pop();
+        }
+        let Some(call) = read_line(&line, extended) else { continue };
+        let (answer, buffer) = perform(&mut set, call);
+        print_answer(&mut output, &set, &answer)?;
+        if bits {
+            print_bits(&mut output, &set, buffer)?;
+        }
+    }
+}
+
+/// The answer, and for a fill its buffer.
+fn perform(set: &mut Set, call: Call) -> (Answer, Option<Vec<f32>>) {
+    match call {
+        Call::Create { rate } => {
+            let (answer, fresh) = Set::new(rate);
+            *set = fresh;
+            (answer, None)
+        }
+        Call::Type { byte, carrier, outbox } => (set.feed(byte, carrier, outbox), None),
+        Call::Lapse { time, carrier } => (set.advance_time(time, carrier), None),
+        Call::ForceData => (set.force_data_mode(), None),
+        Call::Fill { length } => {
+            let mut buffer = vec![f32::from_bits(UNTOUCHED); length];
+            let answer = set.process_out(&mut buffer);
+            (answer, Some(buffer))
+        }
+    }
+}
+
+fn print_answer(out: &mut impl Write, set: &Set, answer: &Answer) -> io::Result<()> {
+    let mode = if set.in_command_mode() { 'C' } else { 'D' };
+    let [first, second] = answer.codes;
+    writeln!(
+        out,
+        "{},{},{},{},{},{},{}",
+        answer.refusal, mode, set.state(), set.stage(), set.m(), first, second
+    )
+}
+
+fn print_bits(out: &mut impl Write, set: &Set, buffer: Option<Vec<f32>>) -> io::Result<()> {
+    write!(out, "# ring={} sent=", set.ring())?;
+    if set.session.sent.is_empty() {
+        write!(out, "-")?;
+    }
+    for byte in &set.session.sent {
+        write!(out, "{byte:02X}")?;
+    }
+    if let Some(samples) = buffer {
+        write!(out, " n={}", samples.len())?;
+        if samples.len() <= 8 {
+            for sample in &samples {
+                write!(out, " {:08X}", sample.to_bits())?;
+            }
+        } else {
+            write!(out, " fnv={:016X}", fnv(&samples))?;
+        }
+    }
+    writeln!(out)
+}
+
+/// 64-bit FNV-1a over the samples' bits, low byte first.
+fn fnv(samples: &[f32]) -> u64 {
+    let mut hash: u64 = 0xCBF2_9CE4_8422_2325;
+    for sample in samples {
+        for byte in sample.to_bits().to_le_bytes() {
+            hash = (hash ^ byte as u64).wrapping_mul(0x0000_0100_0000_01B3);
+        }
+    }
+    hash
+}

@@ -1,0 +1,173 @@
+//! What 01's set adds to the Rust: the calls it declines, the count m, and the numbers
+//! for states, stages and replies.
+
+use crate::at::{AtProcessor, Response};
+use crate::overture::Stage;
+use crate::rust_session::SessionState;
+use crate::session::Session;
+
+pub const LOWEST_RATE: u128 = 8_000;
+pub const HIGHEST_RATE: u128 = 192_000;
+const LINE_LIMIT: usize = 80;
+const OUTBOX_NEEDED: usize = 4;
+const FILL_LIMIT: usize = 65_536;
+
+/// A call's refusal (0 none) and its codes (0 none).
+#[derive(Default)]
+pub struct Answer {
+    pub refusal: u8,
+    pub codes: [u8; 2],
+}
+
+impl Answer {
+    pub fn declined(refusal: u8) -> Self {
+        Answer { refusal, codes: [0, 0] }
+    }
+
+    fn replied(reply: Option<Response>) -> Self {
+        let mut codes = [0, 0];
+        if let Some(response) = reply {
+            for (code, line) in codes.iter_mut().zip(&response.lines) {
+                *code = code_of(line);
+            }
+        }
+        Answer { refusal: 0, codes }
+    }
+}
+
+pub struct Set {
+    at: AtProcessor,
+    pub session: Session,
+    /// How many bytes at.rs holds of an unfinished line.
+    line: usize,
+    m: u64,
+}
+
+impl Set {
+    /// The refusal is 1 for a rate outside the limits; the set is then fresh at 8,000.
+    pub fn new(rate: u128) -> (Answer, Self) {
+        if rate < LOWEST_RATE || rate > HIGHEST_RATE {
+            return (Answer::declined(1), Self::fresh(LOWEST_RATE as u32));
+        }
+        (Answer::default(), Self::fresh(rate as u32))
+    }
+
+    fn fresh(rate: u32) -> Self {
+        Set { at: AtProcessor::new(), session: Session::new(rate), line: 0, m: 0 }
+    }
+
+    pub fn feed(&mut self, byte: u8, carrier: bool, outbox: usize) -> Answer {
+        self.session.begin_call(carrier);
+        if outbox < OUTBOX_NEEDED {
+            return Answer::declined(2);
+        }
+        let ends_or_drops = byte == b'\r' || byte == b'\n';
+        if self.at.in_command_mode() && self.line == LINE_LIMIT && !ends_or_drops {
+            return Answer::declined(4);
+        }
+        self.count_line(byte);
+        let reply = self.at.feed(byte, &mut self.session);
+        self.restart_count_if_moved();
+        Answer::replied(reply)
+    }
+
+    pub fn advance_time(&mut self, lapse: core::time::Duration, carrier: bool) -> Answer {
+        self.session.begin_call(carrier);
+        let reply = self.at.advance_time(lapse, &mut self.session);
+        self.restart_count_if_moved();
+        Answer::replied(reply)
+    }
+
+    pub fn force_data_mode(&mut self) -> Answer {
+        self.session.begin_call(false);
+        self.at.force_data_mode();
+        Answer::default()
+    }
+
+    pub fn process_out(&mut self, out: &mut [f32]) -> Answer {
+        self.session.begin_call(false);
+        if out.len() > FILL_LIMIT {
+            return Answer::declined(3);
+        }
+        if self.session.state() == SessionState::Connected {
+            return Answer::declined(5);
+        }
+        if self.session.state() == SessionState::Dialling {
+            self.m += out.len() as u64;
+        }
+        self.session.process_out(out);
+        Answer::default()
+    }
+
+    pub fn in_command_mode(&self) -> bool {
+        self.at.in_command_mode()
+    }
+
+    pub fn state(&self) -> u8 {
+        match self.session.state() {
+            SessionState::Idle => 0,
+            SessionState::Dialling => 1,
+            SessionState::Answering => 2,
+            SessionState::Connected => 3,
+        }
+    }
+
+    /// The shown stage, 0 for none.
+    pub fn stage(&self) -> u8 {
+        self.session.stage().map_or(0, number_of)
+    }
+
+    pub fn m(&self) -> u64 {
+        self.m
+    }
+
+    /// The ring, 0 for none.
+    pub fn ring(&self) -> u8 {
+        self.session.ring_number().unwrap_or(0)
+    }
+
+    /// at.rs keeps its line to itself, so its length is counted beside it.
+    fn count_line(&mut self, byte: u8) {
+        if !self.at.in_command_mode() {
+            return;
+        }
+        match byte {
+            b'\n' => {}
+            b'\r' => self.line = 0,
+            _ => self.line += 1,
+        }
+    }
+
+    /// Dial, answer and hang-up set m to 0.
+    fn restart_count_if_moved(&mut self) {
+        if self.session.moved {
+            self.m = 0;
+        }
+    }
+}
+
+fn number_of(stage: Stage) -> u8 {
+    match stage {
+        Stage::OffHook => 1,
+        Stage::DialTone => 2,
+        Stage::Dialling => 3,
+        Stage::Ringback => 4,
+        Stage::Ci => 5,
+        Stage::Ansam => 6,
+        Stage::CmJm => 7,
+        Stage::Cj => 8,
+        Stage::Training => 9,
+        Stage::Connected => 10,
+    }
+}
+
+fn code_of(line: &str) -> u8 {
+    match line {
+        "OK" => 1,
+        "CONNECT 300" => 2,
+        "NO CARRIER" => 3,
+        "ERROR" => 4,
+        "modem-core Bell 103 v1.0.0" => 5,
+        other => unreachable!("01 has no code for {other:?}"),
+    }
+}

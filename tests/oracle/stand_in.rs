@@ -1,0 +1,71 @@
+//! The session that at.rs sees: session.rs's own, with two of 01's stand-ins around it,
+//! the carrier flag handed in with a call and `send` recording its bytes.
+
+use crate::overture::Stage;
+use crate::rust_session::{Session as RustSession, SessionState};
+use crate::{Config, Duplex, Role};
+
+pub struct Session {
+    inner: RustSession,
+    /// The flag of the call under way.
+    pub carrier: bool,
+    /// The bytes sent by the call under way.
+    pub sent: Vec<u8>,
+    /// Whether the call under way dialled, answered or hung up.
+    pub moved: bool,
+}
+
+impl Session {
+    pub fn new(sample_rate: u32) -> Self {
+        let config = Config { sample_rate, role: Role::Originate, duplex: Duplex::Full };
+        let inner = RustSession::new(config);
+        Self { inner, carrier: false, sent: Vec::new(), moved: false }
+    }
+
+    pub fn begin_call(&mut self, carrier: bool) {
+        self.carrier = carrier;
+        self.sent.clear();
+        self.moved = false;
+    }
+
+    pub fn dial(&mut self, digits: &str) {
+        self.inner.dial(digits);
+        self.moved = true;
+    }
+
+    pub fn answer(&mut self) {
+        self.inner.answer();
+        self.moved = true;
+    }
+
+    pub fn hangup(&mut self) {
+        self.inner.hangup();
+        self.moved = true;
+    }
+
+    /// In every state: 01's `send` has no exception for Idle.
+    pub fn send(&mut self, bytes: &[u8]) {
+        self.sent.extend_from_slice(bytes);
+    }
+
+    /// session.rs hears nothing in Idle, where it has no receiver.
+    pub fn carrier_detected(&self) -> bool {
+        self.carrier && self.inner.carrier_detected()
+    }
+
+    pub fn process_out(&mut self, out: &mut [f32]) {
+        self.inner.process_out(out);
+    }
+
+    pub fn state(&self) -> SessionState {
+        self.inner.state()
+    }
+
+    pub fn stage(&self) -> Option<Stage> {
+        self.inner.stage()
+    }
+
+    pub fn ring_number(&self) -> Option<u8> {
+        self.inner.ring_number()
+    }
+}
