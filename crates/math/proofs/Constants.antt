@@ -39,25 +39,25 @@ unfolding round ofBits
 decimals-round = refl
 
 -- ---- the divisors of both series, exactly
-sine-divisors : sineDivisors ≡ ofNat 210 ∷ ofNat 156 ∷ ofNat 110 ∷ ofNat 72 ∷ ofNat 42 ∷ ofNat 20 ∷ ofNat 6 ∷ []
+pub sine-divisors : sineDivisors ≡ ofNat 210 ∷ ofNat 156 ∷ ofNat 110 ∷ ofNat 72 ∷ ofNat 42 ∷ ofNat 20 ∷ ofNat 6 ∷ []
 unfolding ofInt ofBits
 sine-divisors = refl
 
-decay-divisors : decayDivisors ≡ ofNat 4 ∷ ofNat 3 ∷ ofNat 2 ∷ ofNat 1 ∷ []
+pub decay-divisors : decayDivisors ≡ ofNat 4 ∷ ofNat 3 ∷ ofNat 2 ∷ ofNat 1 ∷ []
 unfolding ofInt ofBits
 decay-divisors = refl
 
 -- ---- 01, "Proving cases"
 -- 1 + 2^-24 narrows to 1, and 1 + 3 × 2^-24 to 1 + 2^-22
-tie-down : narrowed (f64 0x3ff0_0000_1000_0000) ≡ one
+pub tie-down : narrowed (f64 0x3ff0_0000_1000_0000) ≡ one
 unfolding narrowed ofBits round
 tie-down = refl
 
-tie-up : narrowed (f64 0x3ff0_0000_3000_0000) ≡ f64 0x3ff0_0000_4000_0000
+pub tie-up : narrowed (f64 0x3ff0_0000_3000_0000) ≡ f64 0x3ff0_0000_4000_0000
 unfolding narrowed ofBits round
 tie-up = refl
 
 -- R(0.05) at 8,000
-click-samples : roundOf (times (f64 0x3fa9_9999_9999_999a) (ofNat 8000)) ≡ 400
+pub click-samples : roundOf (times (f64 0x3fa9_9999_9999_999a) (ofNat 8000)) ≡ 400
 unfolding roundOf mul ofInt ofBits
 click-samples = refl

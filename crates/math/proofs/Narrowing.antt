@@ -4,12 +4,12 @@ use mathlib.Core.Path.{_≡_, refl, sym, ap, _∙_, subst}
 use mathlib.Core.Logic.{_⊎_, inl, inr}
 use mathlib.Core.Bool.{Bool, true, false, not, cond}
 use Prim.Native.Nat.{ℕ, zero, suc, _+_, _-_, _*_, _/_, _%_, _^_, _≤_, _<_, compare, Ordering, Ordering·lt, Ordering·eq, Ordering·gt}
-use native.Mathlib.Nat.{le-trans, le-of-eq, le-of-suc-le-suc, not-le-of-lt, eq-or-lt-of-le, mod-lt, lt-of-lt-of-le, lt-of-le-of-lt, zero-lt-suc, mul-pos, mul-comm, mul-assoc, mul-left-comm, mul-right-comm, mul-one, zero-add, mul-le-mul, mul-le-mul-right, mul-lt-mul-of-pos-right, lt-of-mul-lt-mul-right, le-div-iff-mul-le, div-lt-iff-lt-mul, div-eq-of-lt, mod-eq-of-lt, div-add-mod'}
+use native.Mathlib.Nat.{le-trans, le-of-eq, le-of-suc-le-suc, not-le-of-lt, eq-or-lt-of-le, mod-lt, lt-of-lt-of-le, lt-of-le-of-lt, zero-lt-suc, mul-pos, mul-comm, mul-assoc, mul-left-comm, mul-right-comm, mul-one, zero-add, mul-le-mul, mul-le-mul-right, mul-lt-mul-of-pos-right, le-div-iff-mul-le, div-lt-iff-lt-mul, div-eq-of-lt, mod-eq-of-lt, div-add-mod'}
 use native.Mathlib.Omega.{arith}
-use lib.Dec.{T, isLe, isEq, leb, ltb, eqb, leb→le, nleb→lt, ltb→lt, nltb→le, lt→ltb, eqb→eq, eqb-refl, lit<, lit≤}
+use lib.Dec.{T, leb, ltb, leb→le, nleb→lt, lit<, lit≤}
 use lib.Arith.{le→nltb}
 use lib.Pow.{pow-add, pow-pos, pow-mono, shl-lt}
-use lib.Ieee.{Float, nan, inf, fin, binary32, binary64, up, down, size, units, round, nearest, toBits, ofBits, ofFields, fits, eq, nanBits}
+use lib.Ieee.{Float, nan, inf, fin, binary32, binary64, up, down, size, units, round, toBits, ofBits, ofFields, fits, eq, nanBits}
 use lib.Ieee.Bits.{ofBits-toBits, nanBits-above}
 use lib.Ieee.Digits.{size-le}
 use lib.Ieee.Fits.{round-is, round-fits, down-pos, nearest-le}
@@ -20,8 +20,9 @@ use borrow.Author.Tests.{le-leb, lt-ltb, le-ltb}
 use Rattle.math.specs.Float as float
 use Rattle.math.specs.Narrow.{narrowed}
 use Rattle.math.specs.Steps.{narrowBits}
-use Rattle.math.proofs.Tests.{same-test, closest-down, closest-tie, closest-up}
-use Rattle.math.proofs.Pattern.{pattern, size-is, magnitude, significand-lo, significand-hi, fields-value, ones-are, by-fields, is-nan}
+use Rattle.math.proofs.Tests.{Compared, compared, closest-down, closest-tie, closest-up}
+use Rattle.math.proofs.Values.{below-same}
+use Rattle.math.proofs.Pattern.{pattern, none-left, size-is, magnitude, significand-lo, significand-hi, fields-value, ones-are, by-fields, is-nan}
 
 -- ---- `round binary32` of w / c, where the digits that it drops are known
 kept-at : (s : Bool) (w c k q : ℕ) → size (w * 2 ^ 149 / c) - 24 ≡ k → closest (w * 2 ^ 149) (c * 2 ^ k) ≡ q → round binary32 s w c ≡ units binary32 s q k
@@ -56,9 +57,6 @@ normal s g j lo hi =
     step j = omega arith
 
 -- subnormal results: the value is g / 2 ^ (149 + i), with i at least 30
-none-left : (z : ℕ) → z ≤ 24 → z - 24 ≡ 0
-none-left z h = omega arith
-
 below-one : (s : Bool) (g i : ℕ) → g < 2 ^ (24 + i) → round binary32 s g (2 ^ (149 + i)) ≡ units binary32 s (closest g (2 ^ i)) 0
 below-one s g i h =
     let n = g * 2 ^ 149 in
@@ -66,7 +64,7 @@ below-one s g i h =
     let b : n < 2 ^ 24 * c =
     subst (λ (z : ℕ). n < z) (sym (pow-add 2 (24 + i) 149) ∙ ap (λ (z : ℕ). 2 ^ z) (turn i) ∙ pow-add 2 24 (149 + i)) (mul-lt-mul-of-pos-right h (pow-pos 149)) in
     kept-at s g c 0 (closest g (2 ^ i))
-    (none-left (size (n / c)) (size-le (n / c) 24 (div-lt-iff-lt-mul (pow-pos (149 + i)) .1 b)))
+    (none-left (size (n / c)) 24 (size-le (n / c) 24 (div-lt-iff-lt-mul (pow-pos (149 + i)) .1 b)))
     (closest-same n (c * 2 ^ 0) g (2 ^ i) (mul-pos (pow-pos (149 + i)) (pow-pos 0)) (pow-pos i)
     (mul-assoc g (2 ^ 149) (2 ^ i) ∙ ap (λ (z : ℕ). g * z) (sym (pow-add 2 149 i) ∙ sym (mul-one c))))
   where
@@ -75,24 +73,10 @@ below-one s g i h =
 
 -- nothing is left of a value below a half unit
 under-half : (g c : ℕ) → g * 2 < c → closest g c ≡ 0
-under-half g c h =
-    ap (λ (z : ℕ). nearest z (compare (g % c * 2) c)) (div-eq-of-lt (less g c h))
-    ∙ ap (λ (z : ℕ). nearest 0 (compare (z * 2) c)) (mod-eq-of-lt (less g c h))
-    ∙ go (compare (g * 2) c) (nleb→lt (g * 2) c) (eqb→eq (g * 2) c)
+under-half g c h = sym (closest-down g c (subst (λ (z : ℕ). z * 2 < c) (sym (mod-eq-of-lt (less g c h))) h)) ∙ div-eq-of-lt (less g c h)
   where
     less : (g c : ℕ) → g * 2 < c → g < c
     less g c h = omega arith
-
-    no : (a b : ℕ) → a < b → b < a → ⊥
-    no a b h k = omega arith
-
-    ne : (a b : ℕ) → a < b → a ≡ b → ⊥
-    ne a b h k = omega arith
-
-    go : (o : Ordering) → (T (not (isLe o)) → c < g * 2) → (T (isEq o) → g * 2 ≡ c) → nearest 0 o ≡ 0
-    go Ordering·lt k e = refl
-    go Ordering·eq k e = absurd (ne (g * 2) c h (e tt))
-    go Ordering·gt k e = absurd (no (g * 2) c h (k tt))
 
 -- ---- the value's own fraction is g * 2 ^ x / 2 ^ 1074, from its fields
 to-normal : (s : Bool) (g j : ℕ) → 2 ^ 52 ≤ g → g < 2 ^ 53 → round binary32 s (g * 2 ^ (896 + j)) (2 ^ 1074) ≡ units binary32 s (closest g (2 ^ 29)) j
@@ -127,12 +111,12 @@ back s w q k e h c l =
 digits-lo : (g : ℕ) → 2 ^ 52 ≤ g → 2 ^ 23 ≤ closest g (2 ^ 29)
 digits-lo g h = le-trans (le-div-iff-mul-le (pow-pos 29) .1 h) (nearest-ge (g / 2 ^ 29) (compare (g % 2 ^ 29 * 2) (2 ^ 29)))
 
-pub digits-hi : (g i : ℕ) → g < 2 ^ (24 + i) → closest g (2 ^ i) ≤ 2 ^ 24
+digits-hi : (g i : ℕ) → g < 2 ^ (24 + i) → closest g (2 ^ i) ≤ 2 ^ 24
 digits-hi g i h =
     le-trans (nearest-le (g / 2 ^ i) (compare (g % 2 ^ i * 2) (2 ^ i)))
     (div-lt-iff-lt-mul (pow-pos i) .1 (subst (λ (z : ℕ). g < z) (pow-add 2 24 i) h))
 
-pub narrowBits-is : (s : Bool) (e t : ℕ) → e < 1024 → t < 2 ^ 52 → ofBits binary32 (cond s (2 ^ 31) 0 + narrowBits e t) ≡ round binary32 s (magnitude e t) (2 ^ 1074)
+narrowBits-is : (s : Bool) (e t : ℕ) → e < 1024 → t < 2 ^ 52 → ofBits binary32 (cond s (2 ^ 31) 0 + narrowBits e t) ≡ round binary32 s (magnitude e t) (2 ^ 1074)
 unfolding narrowBits
 narrowBits-is s zero t E H = back s t 0 0 (to-none s t (lt-of-lt-of-le H (lit≤ tt))) (lit≤ tt) (inl refl) (lit≤ tt)
 narrowBits-is s (suc x) t E H = go (leb 897 (suc x)) (leb→le 897 (suc x)) (nleb→lt 897 (suc x)) (leb 873 (suc x)) (leb→le 873 (suc x)) (nleb→lt 873 (suc x))
@@ -198,21 +182,13 @@ narrowBits-no-nan s e t E H = subst (λ (b : Bool). T (not b)) (sym (nanBits-abo
     low-part false q h = omega arith
 
 -- ---- `narrowed` by any fraction that the value equals
--- x / de is a / c
-below-two : (x de a c : ℕ) → 0 < de → 0 < c → x * c ≡ a * de → x < 2 * de → a < 2 * c
-below-two x de a c D C e h =
-    lt-of-mul-lt-mul-right de
-    (subst (λ (z : ℕ). z < 2 * c * de) e (lt-of-lt-of-le (mul-lt-mul-of-pos-right h C) (le-of-eq (mul-right-comm 2 de c))))
-
 narrowed-at : (v : Float) (s : Bool) (a c : ℕ) → 0 < c → HasValue v s a c → narrowed v ≡ cond (ltb a (2 * c)) (round binary32 s a c) float.zero
 unfolding narrowed
 narrowed-at nan s a c C h = absurd h
 narrowed-at (inf t) s a c C h = absurd h
 narrowed-at (fin t m e) s a c C h =
     ap (λ (b : Bool). cond b (round binary32 t (m * up e) (down e)) float.zero)
-    (same-test (ltb (m * up e) (2 * down e)) (ltb a (2 * c))
-    (λ k. lt→ltb a (2 * c) (below-two (m * up e) (down e) a c (down-pos e) C (h .1) (ltb→lt (m * up e) (2 * down e) k)))
-    (λ k. lt→ltb (m * up e) (2 * down e) (below-two a c (m * up e) (down e) C (down-pos e) (sym (h .1)) (ltb→lt a (2 * c) k))))
+    (below-same 2 (m * up e) (down e) a c (down-pos e) C (h .1))
     ∙ ap (λ (b : Bool). cond (ltb a (2 * c)) (round binary32 b (m * up e) (down e)) float.zero) (h .0)
     ∙ ap (λ (x : Float). cond (ltb a (2 * c)) x float.zero) (round-same binary32 s (m * up e) (down e) a c (down-pos e) C (h .1))
 
@@ -278,15 +254,8 @@ zero-narrow = refl
 -- ---- the sum
 -- rounding to a multiple of 2 ^ 29, a tie to the even one, by one sum
 rounds : (g : ℕ) → (g + (2 ^ 28 - 1) + g / 2 ^ 29 % 2) / 2 ^ 29 ≡ closest g (2 ^ 29)
-rounds g = go (ltb (g % 2 ^ 29 * 2) (2 ^ 29)) (ltb→lt (g % 2 ^ 29 * 2) (2 ^ 29)) (nltb→le (g % 2 ^ 29 * 2) (2 ^ 29)) (eqb (g % 2 ^ 29 * 2) (2 ^ 29)) (eqb→eq (g % 2 ^ 29 * 2) (2 ^ 29)) (differ (g % 2 ^ 29 * 2) (2 ^ 29))
+rounds g = go (compare (g % 2 ^ 29 * 2) (2 ^ 29)) (compared (g % 2 ^ 29 * 2) (2 ^ 29))
   where
-    differ : (a b : ℕ) → T (not (eqb a b)) → a ≡ b → ⊥
-    differ a b h e = both (eqb a b) (subst (λ (z : ℕ). T (eqb a z)) e (eqb-refl a)) h
-      where
-        both : (b : Bool) → T b → T (not b) → ⊥
-        both true h k = k
-        both false h k = h
-
     down : (g : ℕ) → g % 2 ^ 29 * 2 < 2 ^ 29 → (g + (2 ^ 28 - 1) + g / 2 ^ 29 % 2) / 2 ^ 29 ≡ g / 2 ^ 29
     down g h = omega arith
 
@@ -296,12 +265,10 @@ rounds g = go (ltb (g % 2 ^ 29 * 2) (2 ^ 29)) (ltb→lt (g % 2 ^ 29 * 2) (2 ^ 29
     up : (g : ℕ) → 2 ^ 29 < g % 2 ^ 29 * 2 → (g + (2 ^ 28 - 1) + g / 2 ^ 29 % 2) / 2 ^ 29 ≡ g / 2 ^ 29 + 1
     up g h = omega arith
 
-    go : (a : Bool) → (T a → g % 2 ^ 29 * 2 < 2 ^ 29) → (T (not a) → 2 ^ 29 ≤ g % 2 ^ 29 * 2) → (b : Bool) → (T b → g % 2 ^ 29 * 2 ≡ 2 ^ 29) → (T (not b) → g % 2 ^ 29 * 2 ≡ 2 ^ 29 → ⊥) → (g + (2 ^ 28 - 1) + g / 2 ^ 29 % 2) / 2 ^ 29 ≡ closest g (2 ^ 29)
-    go true A A' b B B' = down g (A tt) ∙ closest-down g (2 ^ 29) (A tt)
-    go false A A' true B B' = tie g (B tt) ∙ closest-tie g (2 ^ 29) (B tt)
-    go false A A' false B B' =
-        let h : 2 ^ 29 < g % 2 ^ 29 * 2 = elim (eq-or-lt-of-le (A' tt)) [ inl e ↦ absurd (B' tt (sym e)) | inr l ↦ l ] in
-        up g h ∙ closest-up g (2 ^ 29) h
+    go : (o : Ordering) → Compared o (g % 2 ^ 29 * 2) (2 ^ 29) → (g + (2 ^ 28 - 1) + g / 2 ^ 29 % 2) / 2 ^ 29 ≡ closest g (2 ^ 29)
+    go Ordering·lt h = down g h ∙ closest-down g (2 ^ 29) h
+    go Ordering·eq h = tie g h ∙ closest-tie g (2 ^ 29) h
+    go Ordering·gt h = up g h ∙ closest-up g (2 ^ 29) h
 
 -- the pattern of a result in the normal range, from the pattern m of the value without its sign
 pub narrowBits-normal : (m : ℕ) → 897 * 2 ^ 52 ≤ m → (m - 0x37ff_ffff_f000_0001 + m / 2 ^ 29 % 2) / 2 ^ 29 ≡ narrowBits (m / 2 ^ 52) (m % 2 ^ 52)

@@ -26,7 +26,7 @@ unsigned f n = (size n - prec f) * hid f + n / 2 ^ (size n - prec f)
 unsigned-by : (f : Format) (n k q : ℕ) → size n - prec f ≡ k → n / 2 ^ k ≡ q → unsigned f n ≡ k * hid f + q
 unsigned-by f n k q e d = ap (λ (z : ℕ). z * hid f + n / 2 ^ z) e ∙ ap (λ (z : ℕ). k * hid f + z) d
 
-none-left : (z p : ℕ) → z ≤ p → z - p ≡ 0
+pub none-left : (z p : ℕ) → z ≤ p → z - p ≡ 0
 none-left z p h = omega arith
 
 over : (p k z : ℕ) → 0 < p → z ≡ suc (p - 1 + k) → z - p ≡ k
@@ -34,9 +34,6 @@ over p k z P e = omega arith
 
 over1 : (p k z : ℕ) → 0 < p → z ≡ suc (p + k) → z - p ≡ suc k
 over1 p k z P e = omega arith
-
-suc-pred : (p : ℕ) → 0 < p → suc (p - 1) ≡ p
-suc-pred p P = omega arith
 
 prec-pos : (f : Format) → 0 < prec f
 prec-pos binary32 = lit≤ tt

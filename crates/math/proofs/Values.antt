@@ -1,14 +1,13 @@
--- Sums, differences and comparisons of values that are not negative, by fractions a / c and b / c that they equal. Assumes nothing.
+-- Sums, differences, products, quotients and comparisons of values that are not negative, by the fractions that they equal. Assumes nothing.
 use mathlib.Core.Path.{_≡_, refl, sym, ap, _∙_, subst}
 use mathlib.Core.Logic.{_⊎_, inl, inr}
-use mathlib.Core.Bool.{Bool, true, false, not, cond, _&&_, _||_, true≢false}
-use Prim.Native.Nat.{ℕ, zero, suc, _+_, _-_, _*_, _/_, _%_, _^_, _≤_, _<_}
-use native.Mathlib.Nat.{le-trans, le-of-eq, le-of-lt, not-le-of-lt, lt-of-not-le, add-mul, mul-sub, mul-assoc, mul-comm, mul-left-comm, mul-right-comm, mul-pos, mul-le-mul-right, le-of-mul-le-mul-right, eq-of-mul-eq-mul-right, zero-mul, mul-mul-mul-comm}
+use mathlib.Core.Bool.{Bool, true, false, cond, _&&_, _||_, true≢false}
+use Prim.Native.Nat.{ℕ, zero, _+_, _-_, _*_, _^_, _≤_, _<_}
+use native.Mathlib.Nat.{lt-of-lt-of-le, lt-of-mul-lt-mul-right, mul-lt-mul-of-pos-right, le-of-eq, le-of-lt, not-le-of-lt, lt-of-not-le, add-mul, mul-sub, mul-assoc, mul-comm, mul-right-comm, mul-pos, mul-le-mul-right, le-of-mul-le-mul-right, eq-of-mul-eq-mul-right, zero-mul, mul-mul-mul-comm}
 use native.Mathlib.Omega.{arith}
 use lib.Dec.{T, leb, ltb, eqb, ltb→lt, lt→ltb, eqb→eq, leb→le, le→leb}
 use lib.Ieee.{Float, nan, inf, fin, Format, binary64, up, down, round, add, sub, mul, div, le, lt, ofInt, ofBits}
-use lib.Ieee.Bits.{is-true, is-false}
-use lib.Ieee.Fits.{up-pos, down-pos, and-l}
+use lib.Ieee.Fits.{down-pos, and-l}
 use lib.Ieee.Exact.{HasValue}
 use lib.Ieee.Order.{transfer, le-of-values}
 use lib.Ieee.Scale.{round-same}
@@ -27,6 +26,18 @@ zero-value c = (refl, zero-mul c)
 pub nat-value : (n : ℕ) → n ≤ 2 ^ 53 → HasValue (ofNat n) false n 1
 unfolding ofInt
 nat-value n h = round-whole binary64 false n h
+
+-- x / de is a / c: both are below k, or neither is
+pub below-same : (k x de a c : ℕ) → 0 < de → 0 < c → x * c ≡ a * de → ltb x (k * de) ≡ ltb a (k * c)
+below-same k x de a c D C e =
+    same-test (ltb x (k * de)) (ltb a (k * c))
+    (λ h. lt→ltb a (k * c) (below x de a c D C e (ltb→lt x (k * de) h)))
+    (λ h. lt→ltb x (k * de) (below a c x de C D (sym e) (ltb→lt a (k * c) h)))
+  where
+    below : (x de a c : ℕ) → 0 < de → 0 < c → x * c ≡ a * de → x < k * de → a < k * c
+    below x de a c D C e h =
+        lt-of-mul-lt-mul-right de
+        (subst (λ (z : ℕ). z < k * c * de) e (lt-of-lt-of-le (mul-lt-mul-of-pos-right h C) (le-of-eq (mul-right-comm k de c))))
 
 -- ---- operations
 -- (x * dd) * c is a * (de * dd)

@@ -1,12 +1,12 @@
 -- Floor and half-away rounding. Equal fractions have the same whole parts, so any fraction that a value equals gives them;
 -- the code has twice the value, cut, from the value's pattern, and halves it. Assumes nothing.
-use mathlib.Core.Path.{_≡_, refl, sym, ap, _∙_, subst}
+use mathlib.Core.Path.{_≡_, refl, sym, ap, _∙_}
 use mathlib.Core.Logic.{_⊎_, inl, inr}
 use mathlib.Core.Bool.{Bool, true, false, cond}
 use Prim.Native.Nat.{ℕ, zero, suc, _+_, _-_, _*_, _/_, _%_, _^_, _≤_, _<_}
-use native.Mathlib.Nat.{le-trans, le-of-eq, le-of-lt, mod-eq-of-lt, le-of-suc-le-suc, lt-of-lt-of-le, not-le-of-lt, eq-or-lt-of-le, mul-comm, mul-assoc, mul-left-comm, mul-right-comm, mul-le-mul, mul-lt-mul-of-pos-right, mul-lt-mul-of-pos-left, lt-of-mul-lt-mul-right, div-eq-of-lt, div-lt-iff-lt-mul, div-div-eq-div-mul, mul-div-mul-left, add-div-right, mod-lt, mul-pos, zero-lt-suc, add-mul, mul-mul-mul-comm}
+use native.Mathlib.Nat.{le-trans, le-of-eq, le-of-lt, mod-eq-of-lt, le-of-suc-le-suc, lt-of-lt-of-le, not-le-of-lt, eq-or-lt-of-le, mul-comm, mul-assoc, mul-left-comm, mul-le-mul, mul-lt-mul-of-pos-left, div-eq-of-lt, div-lt-iff-lt-mul, div-div-eq-div-mul, mul-div-mul-left, add-div-right, mod-lt, mul-pos, zero-lt-suc, add-mul, mul-mul-mul-comm}
 use native.Mathlib.Omega.{arith}
-use lib.Dec.{T, leb, ltb, ltb→lt, lt→ltb, lit<, lit≤}
+use lib.Dec.{T, ltb, ltb→lt, lit<, lit≤}
 use lib.Pow.{pow-add, pow-pos, pow-mono, shl-lt}
 use lib.Ieee.{Float, nan, inf, fin, binary64, up, down, ofFields, toBits, fits, eq}
 use lib.Ieee.Fits.{down-pos}
@@ -15,15 +15,10 @@ use lib.Ieee.Nearest.{div-same}
 use borrow.Author.Tests.{le-leb, lt-leb, lt-ltb, le-ltb}
 use Rattle.math.specs.Whole.{wholeBy, floorOf, roundOf}
 use Rattle.math.specs.Steps.{twice}
-use Rattle.math.proofs.Tests.{same-test}
+use Rattle.math.proofs.Values.{below-same}
 use Rattle.math.proofs.Pattern.{magnitude, significand-lo, significand-hi, fields-value, ones-are, by-fields, is-nan}
 
 -- ---- by any fraction that the value equals
-below : (k x de a c : ℕ) → 0 < de → 0 < c → x * c ≡ a * de → x < k * de → a < k * c
-below k x de a c D C e h =
-    lt-of-mul-lt-mul-right de
-    (subst (λ (z : ℕ). z < k * c * de) e (lt-of-lt-of-le (mul-lt-mul-of-pos-right h C) (le-of-eq (mul-right-comm k de c))))
-
 -- `of` gives the same of equal fractions
 abbrev Steady : (ℕ → ℕ → ℕ) → Type 0
 Steady of = (x d a c : ℕ) → 0 < d → 0 < c → x * c ≡ a * d → of x d ≡ of a c
@@ -34,9 +29,7 @@ whole-at of same (inf t) s a c C h = absurd h
 whole-at of same (fin t m e) s a c C h =
     ap (λ (b : Bool). cond b 0 (cond (ltb (m * up e) (2 ^ 51 * down e)) (of (m * up e) (down e)) 0)) (h .0)
     ∙ ap (λ (b : Bool). cond s 0 (cond b (of (m * up e) (down e)) 0))
-    (same-test (ltb (m * up e) (2 ^ 51 * down e)) (ltb a (2 ^ 51 * c))
-    (λ k. lt→ltb a (2 ^ 51 * c) (below (2 ^ 51) (m * up e) (down e) a c (down-pos e) C (h .1) (ltb→lt (m * up e) (2 ^ 51 * down e) k)))
-    (λ k. lt→ltb (m * up e) (2 ^ 51 * down e) (below (2 ^ 51) a c (m * up e) (down e) C (down-pos e) (sym (h .1)) (ltb→lt a (2 ^ 51 * c) k))))
+    (below-same (2 ^ 51) (m * up e) (down e) a c (down-pos e) C (h .1))
     ∙ ap (λ (z : ℕ). cond s 0 (cond (ltb a (2 ^ 51 * c)) z 0)) (same (m * up e) (down e) a c (down-pos e) C (h .1))
 
 in-range : (of : ℕ → ℕ → ℕ) → Steady of → (v : Float) (a c : ℕ) → 0 < c → HasValue v false a c → a < 2 ^ 51 * c → wholeBy of v ≡ of a c

@@ -1,7 +1,7 @@
 -- With phase and step in [0, TAU) the next phase is in [0, TAU) again: TAU is M * 2 ^ 1024 units of 2 ^ -1074, both are at most one less in M,
 -- and so is what is left of their sum. Assumes nothing.
-use mathlib.Core.Path.{_≡_, refl, sym, subst}
-use mathlib.Core.Logic.{_⊎_, inl, inr}
+use mathlib.Core.Path.{refl, sym, subst}
+use mathlib.Core.Logic.{inl, inr}
 use mathlib.Core.Bool.{Bool, true, false, not}
 use Prim.Native.Nat.{ℕ, zero, suc, _+_, _-_, _*_, _^_, _≤_, _<_}
 use native.Mathlib.Nat.{le-trans, le-of-lt, not-le-of-lt, eq-or-lt-of-le, mul-le-mul, mul-le-mul-right, lt-of-mul-lt-mul-right}

@@ -1,3 +1,4 @@
+-- `double` meets its contract: the pattern's fields say whether the value is below a half, in range, too large, negative or no number. Assumes nothing.
 use mathlib.Core.Path.{sym, subst}
 use lib.Dec.{T}
 use lib.Ieee.{binary64, fits}

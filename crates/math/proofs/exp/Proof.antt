@@ -1,3 +1,4 @@
+-- `exp` meets its contract: the tests are the definition's, and the calls its series and its squarings. Assumes nothing.
 use Rattle.math.specs.Sine.{series}
 use Rattle.math.specs.Decay.{decay}
 use borrow.Author.Needs.{needs}

@@ -1,3 +1,4 @@
+-- `floor` meets its contract: half of twice the value, cut, is the floor. Assumes nothing.
 use Rattle.math.proofs.Whole.{twice-floor}
 use borrow.Author.Needs.{needs}
 use Rattle.math.proofs.floor.Statement.{statement}

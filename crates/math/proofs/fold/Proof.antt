@@ -1,3 +1,4 @@
+-- `fold` meets its contract: each branch is the definition's, by its test. Assumes nothing.
 use Rattle.math.specs.Sine.{folded}
 use Rattle.math.proofs.fold.Statement.{statement}
 use Rattle.math.proofs.fold.Tie as tie

@@ -1,3 +1,4 @@
+-- `full_wave` meets its contract, by what its four calls ensure. Assumes nothing.
 use borrow.Author.Needs.{needs}
 use Rattle.math.proofs.full_wave.Statement.{statement}
 use Rattle.math.proofs.full_wave.Tie as tie

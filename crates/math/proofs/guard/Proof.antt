@@ -1,3 +1,4 @@
+-- `guard` meets its contract: each branch is the definition's, by its tests. Assumes nothing.
 use Rattle.math.proofs.guard.Statement.{statement}
 use Rattle.math.proofs.guard.Tie as tie
 

@@ -1,3 +1,4 @@
+-- `lower` meets its contract: each branch is the definition's, by its test. Assumes nothing.
 use Rattle.math.proofs.lower.Statement.{statement}
 use Rattle.math.proofs.lower.Tie as tie
 

@@ -1,3 +1,4 @@
+-- `narrow` meets its contract: the sign's bit and `narrow_bits` make the pattern of the rounded value, which is no NaN's. Assumes nothing.
 use Rattle.math.proofs.Narrowing.{narrowBits-le, narrowBits-no-nan, narrow-small, narrow-large, narrow-nan, sign-le, zero-narrow, field-small, field-large, low-digits}
 use Rattle.math.proofs.Pattern.{not-nan}
 use Rattle.math.specs.Steps.{narrowBits}
@@ -16,17 +17,18 @@ use Rattle.math.proofs.narrow.Tie as tie
 held : (c : tie.Start) → T (fits binary64 (c .args .x))
 held c = subst T (sym (c .good .0 .1)) tt
 
-shrank : (c : tie.After-narrow-bits) →
+-- what `narrow_bits` gave, by the digits of the whole pattern
+narrowed-bits : (c : tie.After-narrow-bits) →
     let b = toBits binary64 (c .before .before .before .before .args .x) in
     c .narrow-bits .result ≡ narrowBits (b % 2 ^ 63 / 2 ^ 52) (b % 2 ^ 52)
-shrank c = let b = toBits binary64 (c .before .before .before .before .args .x) in c .narrow-bits .ensures ∙ ap (narrowBits (b % 2 ^ 63 / 2 ^ 52)) (low-digits b)
+narrowed-bits c = let b = toBits binary64 (c .before .before .before .before .args .x) in c .narrow-bits .ensures ∙ ap (narrowBits (b % 2 ^ 63 / 2 ^ 52)) (low-digits b)
 
 -- the pattern that is put together, below 2 ^ 32
 small : (c : tie.After-narrow-bits) → c .before .sign-bit .result + c .narrow-bits .result < 2 ^ 32
 small c =
     let b = toBits binary64 (c .before .before .before .before .args .x) in
     let h : c .before .sign-bit .result ≤ 2 ^ 31 = subst (λ (z : ℕ). z ≤ 2 ^ 31) (sym (c .before .sign-bit .ensures)) (sign-le (leb (2 ^ 63) b)) in
-    let k : c .narrow-bits .result ≤ 2 ^ 30 = subst (λ (z : ℕ). z ≤ 2 ^ 30) (sym (shrank c)) (narrowBits-le (b % 2 ^ 63 / 2 ^ 52) (b % 2 ^ 52) (field-small _ (c .before .before .if2 .taken)) (mod-lt b (pow-pos 52))) in
+    let k : c .narrow-bits .result ≤ 2 ^ 30 = subst (λ (z : ℕ). z ≤ 2 ^ 30) (sym (narrowed-bits c)) (narrowBits-le (b % 2 ^ 63 / 2 ^ 52) (b % 2 ^ 52) (field-small _ (c .before .before .if2 .taken)) (mod-lt b (pow-pos 52))) in
     omega arith
 
 float-to-bits-b : tie.Need-float-to-bits-b
@@ -46,10 +48,10 @@ cast-result c = let h = small c in omega arith
 
 float-from-bits-result : tie.Need-float-from-bits-result
 float-from-bits-result c = let b = toBits binary64 (c .before .before .before .before .args .x) in
-    rw (c .before .sign-bit .ensures, shrank c) (narrowBits-no-nan (leb (2 ^ 63) b) (b % 2 ^ 63 / 2 ^ 52) (b % 2 ^ 52) (field-small _ (c .before .before .if2 .taken)) (mod-lt b (pow-pos 52)))
+    rw (c .before .sign-bit .ensures, narrowed-bits c) (narrowBits-no-nan (leb (2 ^ 63) b) (b % 2 ^ 63 / 2 ^ 52) (b % 2 ^ 52) (field-small _ (c .before .before .if2 .taken)) (mod-lt b (pow-pos 52)))
 
 returns : tie.Need-returns
-returns c = rw (c .before .sign-bit .ensures, shrank c) (narrow-small (c .before .before .before .before .args .x) (held (c .before .before .before .before)) (field-small _ (c .before .before .if2 .taken)))
+returns c = rw (c .before .sign-bit .ensures, narrowed-bits c) (narrow-small (c .before .before .before .before .args .x) (held (c .before .before .before .before)) (field-small _ (c .before .before .if2 .taken)))
 
 returns-2 : tie.Need-returns-2
 returns-2 c = zero-narrow ∙ narrow-large (c .before .before .args .x) (held (c .before .before)) (field-large _ (c .if2 .left))

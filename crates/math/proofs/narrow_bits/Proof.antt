@@ -1,3 +1,4 @@
+-- `narrow_bits` meets its contract: in the normal range the one sum is the pattern. Assumes nothing.
 use Rattle.math.proofs.Narrowing.{narrowBits-normal}
 use borrow.Author.Needs.{needs}
 use Rattle.math.proofs.narrow_bits.Statement.{statement}

@@ -1,3 +1,4 @@
+-- `narrow_subnormal` meets its contract: `nearest` rounds to the unit of the subnormals, and less than half a unit is nothing. Assumes nothing.
 use lib.Pow.{pow-pos, pow-mono}
 use borrow.Author.Tests.{le-leb, lt-leb}
 use Rattle.math.proofs.Tests.{one-shl}

@@ -1,3 +1,4 @@
+-- `nearest` meets its contract, by how twice the remainder compares with the divisor. Assumes nothing.
 use Rattle.math.proofs.Tests.{closest-down, closest-tie, closest-up}
 use native.Mathlib.Nat.{mod-lt, div-le-self}
 use native.Mathlib.Omega.{arith}

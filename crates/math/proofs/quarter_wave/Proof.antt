@@ -1,3 +1,4 @@
+-- `quarter_wave` meets its contract: seven steps are the series over the seven divisors. Assumes nothing.
 use Rattle.math.specs.Sine.{quarterWave, series}
 use borrow.Author.Needs.{needs}
 use Rattle.math.proofs.quarter_wave.Statement.{statement}

@@ -1,3 +1,4 @@
+-- `round` meets its contract: twice the value, cut, and one more, halved, is rounding half away. Assumes nothing.
 use native.Mathlib.Omega.{arith}
 use Rattle.math.proofs.Whole.{twice-round, twice-le}
 use borrow.Author.Needs.{needs}

@@ -1,3 +1,4 @@
+-- `sign` meets its contract: each branch is the definition's, by its test. Assumes nothing.
 use Rattle.math.proofs.sign.Statement.{statement}
 use Rattle.math.proofs.sign.Tie as tie
 

@@ -1,3 +1,4 @@
+-- `sign_bit` meets its contract: each branch is the definition's, by its test. Assumes nothing.
 use borrow.Author.Tests.{le-leb, lt-leb}
 use Rattle.math.proofs.sign_bit.Statement.{statement}
 use Rattle.math.proofs.sign_bit.Tie as tie

@@ -1,3 +1,4 @@
+-- `sin` meets its contract: the guard of the full wave is S. Assumes nothing.
 use Rattle.math.specs.Sine.{sine}
 use borrow.Author.Needs.{needs}
 use Rattle.math.proofs.sin.Statement.{statement}

@@ -1,3 +1,4 @@
+-- `sin_both` meets its contract: in the turn S is the full wave, and out of it `sin_rare` answers. Assumes nothing.
 use Rattle.math.specs.Sine.{sine}
 use borrow.Author.Needs.{needs}
 use Rattle.math.proofs.sin_both.Statement.{statement}

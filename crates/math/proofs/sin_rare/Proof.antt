@@ -1,3 +1,4 @@
+-- `sin_rare` meets its contract: in the turn S is the full wave, and out of it 0.0. Assumes nothing.
 use Rattle.math.specs.Sine.{sine}
 use borrow.Author.Needs.{needs}
 use Rattle.math.proofs.sin_rare.Statement.{statement}

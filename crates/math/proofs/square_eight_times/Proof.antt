@@ -1,3 +1,4 @@
+-- `square_eight_times` meets its contract, by computing. Assumes nothing.
 use mathlib.Core.Path.{refl}
 use Rattle.math.specs.Decay.{squared}
 use Rattle.math.proofs.square_eight_times.Statement.{statement}
