@@ -8,7 +8,8 @@ use native.Mathlib.Nat.{le-of-eq, le-of-lt, le-antisymm, lt-of-not-le, eq-or-lt-
 use native.Mathlib.Omega.{arith}
 use lib.Dec.{T, ltb, ltb→lt, nltb→le, lit<, lit≤}
 use lib.Ieee.{sub, mul, div, lt, ofInt, ofBits}
-use Rattle.math.specs.Whole.{floorOf, roundOf}
+use Rattle.math.specs.Whole.{floorOf}
+use Rattle.math.proofs.Constants.{click-samples}
 use Rattle.schedule.specs.Time.{timeAt, samplesIn}
 use Rattle.schedule.specs.Dialling.{digitAt, inTone}
 use Rattle.schedule.specs.Length.{clickTime, diallingLength}
@@ -17,8 +18,8 @@ use Rattle.schedule.proofs.Lengths.{dialling-none, dialling-ends, diall
 
 -- R(0.05) = 400
 pub click-at-8000 : samplesIn clickTime 8000 ≡ 400
-unfolding samplesIn roundOf mul ofInt ofBits
-click-at-8000 = refl
+unfolding samplesIn
+click-at-8000 = click-samples
 
 -- ---- Dialling 1, 3,200, 4,801 for 0, 2, 3 digits
 pub no-digits-at-8000 : diallingLength 8000 0 ≡ 1
