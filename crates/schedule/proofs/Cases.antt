@@ -8,17 +8,18 @@ use native.Mathlib.Nat.{le-of-eq, le-of-lt, le-antisymm, lt-of-not-le, eq-or-lt-
 use native.Mathlib.Omega.{arith}
 use lib.Dec.{T, ltb, ltb→lt, nltb→le, lit<, lit≤}
 use lib.Ieee.{sub, mul, div, lt, ofInt, ofBits}
-use Rattle.math.specs.Whole.{floorOf, roundOf}
+use Rattle.math.specs.Whole.{floorOf}
+use Rattle.math.proofs.Constants.{click-samples}
 use Rattle.schedule.specs.Time.{timeAt, samplesIn}
 use Rattle.schedule.specs.Dialling.{digitAt, inTone}
 use Rattle.schedule.specs.Length.{clickTime, diallingLength}
-use Rattle.schedule.proofs.Digits.{digit-early, digit-late, in-tone, in-gap}
+use Rattle.schedule.proofs.Digits.{digit-late, digit-past, in-tone, in-gap}
 use Rattle.schedule.proofs.Lengths.{dialling-none, dialling-ends, dialling-near}
 
 -- R(0.05) = 400
 pub click-at-8000 : samplesIn clickTime 8000 ≡ 400
-unfolding samplesIn roundOf mul ofInt ofBits
-click-at-8000 = refl
+unfolding samplesIn
+click-at-8000 = click-samples
 
 -- ---- Dialling 1, 3,200, 4,801 for 0, 2, 3 digits
 pub no-digits-at-8000 : diallingLength 8000 0 ≡ 1
@@ -75,7 +76,7 @@ second-digit-only k most s = (from k most (s .0), le-of-suc-le-suc (lt-of-not-le
   where
     from : (j : ℕ) → j < 2 ^ 32 → digitAt (timeAt 8000 j) ≡ 1 → 1600 ≤ j
     from zero h e = absurd (omega (arith, at-0))
-    from (suc j) h e = omega (arith, digit-early 8000 (lit≤ tt) (lit≤ tt) (suc j) (zero-lt-suc j) (le-of-lt h) 1 (le-of-eq (sym e)))
+    from (suc j) h e = omega (arith, digit-late 8000 (lit≤ tt) (lit≤ tt) (suc j) (zero-lt-suc j) (le-of-lt h) 1 (le-of-eq (sym e)))
 
     past : 2401 ≤ k → ⊥
     past g = go (ltb k 3200) (ltb→lt k 3200) (nltb→le k 3200)
@@ -84,5 +85,5 @@ second-digit-only k most s = (from k most (s .0), le-of-suc-le-suc (lt-of-not-le
         go true l h = let gap = l tt in true≢false (sym (s .1) ∙ in-gap 8000 (lit≤ tt) (lit≤ tt) k (le-of-lt most) 1 (lit≤ tt) (omega arith) (omega arith) .1)
         go false l h = elim (eq-or-lt-of-le (h tt)) [
           | inl e ↦ omega (arith, s .0, subst (λ (z : ℕ). digitAt (timeAt 8000 z) ≡ 2) e at-3200)
-          | inr w ↦ omega (arith, s .0, digit-late 8000 (lit≤ tt) (lit≤ tt) k (omega arith) (le-of-lt most) 2 (lit≤ tt) (omega arith))
+          | inr w ↦ omega (arith, s .0, digit-past 8000 (lit≤ tt) (lit≤ tt) k (omega arith) (le-of-lt most) 2 (lit≤ tt) (omega arith))
         ]

@@ -1,5 +1,5 @@
--- The digit and its tone after n samples: within digit p once 5 * n is above p * r, in tone while 10 * n is below (2 * p + 1) * r, in the gap above that.
--- 0.2 is F * 2 ^ -72, above 1 / 5 by 2 ^ 18 / 5 units; all the roundings on the way to the digit and to t - i × 0.2 stay far below the 2 ^ 72 / (10 * r) units that a count off an edge keeps from it. Assumes nothing.
+-- The digit and its tone after n samples: digit i once 5 * n is above i * r, in tone while 10 * n is below (2 * i + 1) * r, in the gap above that.
+-- 0.2 is F * 2 ^ -72, above 1 / 5 by 2 ^ 18 / 5 units; what that and the roundings of t, t / 0.2, i × 0.2 and t - i × 0.2 add up to is far below the 2 ^ 72 / (10 * r) units by which a count off an edge misses it. Assumes nothing.
 use mathlib.Core.Path.{_≡_, refl, sym, _∙_, subst}
 use mathlib.Core.Bool.{true, false}
 use Prim.Native.Nat.{ℕ, suc, _+_, _-_, _*_, _/_, _^_, _≤_, _<_}
@@ -159,18 +159,18 @@ module _ (r : ℕ) (lo : 8000 ≤ r) (hi : r ≤ 192000) (n : ℕ) (some : 0 < n
   digit-is = floor-at (over (timeAt r n) digitPeriod) (q .at) (2 ^ 72) (pow-pos 72) (q .value) (q-small (t .at) (q .at) small (q .over))
 
   -- past the edge the digit is d or more
-  pub digit-late : (d : ℕ) → d ≤ 76 → d * r < 5 * n → d ≤ digitAt (timeAt r n)
-  digit-late d D h = rw digit-is (le-div-iff-mul-le (pow-pos 72) .1 (q-ge F (2 ^ 72) d (t .at) (q .at) (2 ^ 42) (lit< tt) (lit≤ tt) (t-ge (t .at) r n d lo hi D h (t .under)) (q .under)))
+  pub digit-past : (d : ℕ) → d ≤ 76 → d * r < 5 * n → d ≤ digitAt (timeAt r n)
+  digit-past d D h = rw digit-is (le-div-iff-mul-le (pow-pos 72) .1 (q-ge F (2 ^ 72) d (t .at) (q .at) (2 ^ 42) (lit< tt) (lit≤ tt) (t-ge (t .at) r n d lo hi D h (t .under)) (q .under)))
 
   -- and it is so only from the edge on
-  pub digit-early : (d : ℕ) → d ≤ digitAt (timeAt r n) → d * r ≤ 5 * n
-  digit-early d h = t-le (t .at) r n d hi (q-le F (2 ^ 72) d (t .at) (q .at) (2 ^ 42) (pow-pos 72) (lit≤ tt) (le-div-iff-mul-le (pow-pos 72) .0 (rw digit-is at h)) (q .over)) (t .over)
+  pub digit-late : (d : ℕ) → d ≤ digitAt (timeAt r n) → d * r ≤ 5 * n
+  digit-late d h = t-le (t .at) r n d hi (q-le F (2 ^ 72) d (t .at) (q .at) (2 ^ 42) (pow-pos 72) (lit≤ tt) (le-div-iff-mul-le (pow-pos 72) .0 (rw digit-is at h)) (q .over)) (t .over)
 
   module _ (i : ℕ) (I : i ≤ 75) (after : i * r < 5 * n) (before : 5 * n < i * r + r) where
     inside : digitAt (timeAt r n) ≡ i
     inside =
-        le-antisymm (le-of-suc-le-suc (lt-of-not-le (λ (g : suc i ≤ digitAt (timeAt r n)). not-le-of-lt before (le-trans (le-of-eq (sym (suc-mul i r))) (digit-early (suc i) g)))))
-        (digit-late i (le-trans I (lit≤ tt)) after)
+        le-antisymm (le-of-suc-le-suc (lt-of-not-le (λ (g : suc i ≤ digitAt (timeAt r n)). not-le-of-lt before (le-trans (le-of-eq (sym (suc-mul i r))) (digit-late (suc i) g)))))
+        (digit-past i (le-trans I (lit≤ tt)) after)
 
     x : Near 72 23 (i * F) (times (ofNat i) digitPeriod)
     x = multiple i I

@@ -42,10 +42,10 @@ first-reaches count N k h m e =
     (record { some = f .least; reached = leb→le N (count m) (f .holds); before = λ n l g. nleb→lt N (count n) (f .before n l g) }, f .most)
 
 -- a * n is at most b until the count is N, and b or more then: so it is N first at b / a, or less than 1 after that
-pub near : (count : ℕ → ℕ) (N a b K m : ℕ) → ((n : ℕ) → 1 ≤ n → n ≤ K → count n < N → a * n ≤ b) → ((n : ℕ) → 1 ≤ n → n ≤ K → N ≤ count n → b ≤ a * n)
+pub first-near : (count : ℕ → ℕ) (N a b K m : ℕ) → ((n : ℕ) → 1 ≤ n → n ≤ K → count n < N → a * n ≤ b) → ((n : ℕ) → 1 ≤ n → n ≤ K → N ≤ count n → b ≤ a * n)
     → Reaches count N m → m ≤ K → (b ≤ a * m) × (a * m ≤ b + a)
-near count N a b K zero early late f l = absurd (omega (arith, f .some))
-near count N a b K (suc zero) early late f l = (late 1 (f .some) l (f .reached), omega arith)
-near count N a b K (suc (suc n)) early late f l =
+first-near count N a b K zero early late f l = absurd (omega (arith, f .some))
+first-near count N a b K (suc zero) early late f l = (late 1 (f .some) l (f .reached), omega arith)
+first-near count N a b K (suc (suc n)) early late f l =
     let h = early (suc n) (omega arith) (omega arith) (f .before (suc n) (omega arith) (le-refl (suc (suc n)))) in
     (late (suc (suc n)) (f .some) l (f .reached), omega arith)

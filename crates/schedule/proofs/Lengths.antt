@@ -10,9 +10,9 @@ use Rattle.schedule.specs.Dialling.{digitAt}
 use Rattle.schedule.specs.Symbols.{symbolStep, doneAfter}
 use Rattle.schedule.specs.Length.{clickTime, ringbackTime, ansamTime, cjSilence, bitsLength, diallingLength}
 use Rattle.schedule.proofs.Samples.{click-near, silence-near, dial-tone-samples, ringback-samples, ansam-samples}
-use Rattle.schedule.proofs.First.{Reaches, first-reaches, near}
+use Rattle.schedule.proofs.First.{Reaches, first-reaches, first-near}
 use Rattle.schedule.proofs.Symbols.{bits-early, bits-late}
-use Rattle.schedule.proofs.Digits.{digit-early, digit-late}
+use Rattle.schedule.proofs.Digits.{digit-late, digit-past}
 
 -- the digit's number after n samples, and the bits done
 abbrev pub digitAfter : ℕ → ℕ → ℕ
@@ -30,7 +30,7 @@ module _ (r : ℕ) (lo : 8000 ≤ r) (hi : r ≤ 192000) where
   dialling-first : (d : ℕ) → d ≤ 76 → 0 < d → Reaches (digitAfter r) d (diallingLength r d) × (diallingLength r d ≤ 4000001)
   unfolding diallingLength
   dialling-first zero D P = absurd (omega arith)
-  dialling-first (suc d) D P = first-reaches (digitAfter r) (suc d) 4000000 (digit-late r lo hi 4000001 (lit< tt) (lit≤ tt) (suc d) D (lt-of-le-of-lt (mul-le-mul D hi) (lit< tt))) (diallingLength r (suc d)) refl
+  dialling-first (suc d) D P = first-reaches (digitAfter r) (suc d) 4000000 (digit-past r lo hi 4000001 (lit< tt) (lit≤ tt) (suc d) D (lt-of-le-of-lt (mul-le-mul D hi) (lit< tt))) (diallingLength r (suc d)) refl
 
   -- it ends at the first sample at which i >= d
   pub dialling-ends : (d : ℕ) → d ≤ 76 → 0 < d → Reaches (digitAfter r) d (diallingLength r d)
@@ -41,10 +41,10 @@ module _ (r : ℕ) (lo : 8000 ≤ r) (hi : r ≤ 192000) where
   dialling-near zero D = rw (dialling-none r) (omega arith, omega arith)
   dialling-near (suc d) D =
       let f = dialling-first (suc d) D (zero-lt-suc d) in
-      near (digitAfter r) (suc d) 5 (suc d * r) (2 ^ 32) (diallingLength r (suc d)) early (λ n some most h. digit-early r lo hi n some most (suc d) h) (f .0) (le-trans (f .1) (lit≤ tt))
+      first-near (digitAfter r) (suc d) 5 (suc d * r) (2 ^ 32) (diallingLength r (suc d)) early (λ n some most h. digit-late r lo hi n some most (suc d) h) (f .0) (le-trans (f .1) (lit≤ tt))
     where
       early : (n : ℕ) → 1 ≤ n → n ≤ 2 ^ 32 → digitAfter r n < suc d → 5 * n ≤ suc d * r
-      early n some most h = le-of-suc-le-suc (lt-of-not-le (λ (g : suc (suc d * r) ≤ 5 * n). not-le-of-lt h (digit-late r lo hi n some most (suc d) D g)))
+      early n some most h = le-of-suc-le-suc (lt-of-not-le (λ (g : suc (suc d * r) ≤ 5 * n). not-le-of-lt h (digit-past r lo hi n some most (suc d) D g)))
 
   -- ---- the stages of bits
   bits-first : (N : ℕ) → N ≤ 300 → Reaches (bitsAfter r) N (bitsLength r N) × (bitsLength r N ≤ 1000001)
@@ -68,7 +68,7 @@ module _ (r : ℕ) (lo : 8000 ≤ r) (hi : r ≤ 192000) where
   pub bits-near : (N : ℕ) → N ≤ 300 → (N * r ≤ 300 * bitsLength r N) × (300 * bitsLength r N ≤ N * r + 300)
   bits-near N B =
       let f = bits-first N B in
-      near (bitsAfter r) N 300 (N * r) (2 ^ 32) (bitsLength r N) (λ n some most h. bits-early r lo hi N n B h) (λ n some most h. bits-late r lo hi N n most h) (f .0) (le-trans (f .1) (lit≤ tt))
+      first-near (bitsAfter r) N 300 (N * r) (2 ^ 32) (bitsLength r N) (λ n some most h. bits-early r lo hi N n B h) (λ n some most h. bits-late r lo hi N n most h) (f .0) (le-trans (f .1) (lit≤ tt))
 
   -- ---- each stage, at least and at most
   pub click-range : (1 ≤ samplesIn clickTime r) × (samplesIn clickTime r ≤ 9600)
