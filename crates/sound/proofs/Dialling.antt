@@ -12,7 +12,7 @@ use Rattle.schedule.specs.Time.{timeAt}
 use Rattle.schedule.specs.Dialling.{digitAt}
 use Rattle.schedule.specs.Length.{diallingLength}
 use Rattle.schedule.proofs.First.{Reaches}
-use Rattle.schedule.proofs.Digits.{digit-early, digit-late}
+use Rattle.schedule.proofs.Digits.{digit-past, digit-late}
 use Rattle.schedule.proofs.Lengths.{dialling-none, dialling-ends, dialling-range}
 
 module _ (r : ℕ) (lo : 8000 ≤ r) (hi : r ≤ 192000) where
@@ -20,14 +20,14 @@ module _ (r : ℕ) (lo : 8000 ≤ r) (hi : r ≤ 192000) where
   past : (d n : ℕ) → 0 < d → d ≤ 76 → n ≤ 2 ^ 32 → diallingLength r d ≤ n → d ≤ digitAt (timeAt r n)
   past d n P D most h = elim (eq-or-lt-of-le h) [
     | inl e ↦ subst (λ (z : ℕ). d ≤ digitAt (timeAt r z)) e (end .reached)
-    | inr l ↦ digit-late r lo hi n (le-trans (end .some) h) most d D (lt-of-le-of-lt edge (mul-lt-mul-of-pos-left l (zero-lt-suc 4)))
+    | inr l ↦ digit-past r lo hi n (le-trans (end .some) h) most d D (lt-of-le-of-lt edge (mul-lt-mul-of-pos-left l (zero-lt-suc 4)))
   ]
     where
       end : Reaches (λ k. digitAt (timeAt r k)) d (diallingLength r d)
       end = dialling-ends r lo hi d D P
 
       edge : d * r ≤ 5 * diallingLength r d
-      edge = digit-early r lo hi (diallingLength r d) (end .some) (le-trans (dialling-range r lo hi d D .1) (lit≤ tt)) d (end .reached)
+      edge = digit-late r lo hi (diallingLength r d) (end .some) (le-trans (dialling-range r lo hi d D .1) (lit≤ tt)) d (end .reached)
 
   later : (d n : ℕ) → d ≤ 76 → suc n ≤ 2 ^ 32 → ltb (digitAt (timeAt r (suc n))) d ≡ ltb (suc n) (diallingLength r d)
   later zero n D most = le-ltb (digitAt (timeAt r (suc n))) 0 zero-le ∙ sym (rw (dialling-none r) (le-ltb (suc n) 1 (zero-lt-suc n)))
