@@ -1,0 +1,32 @@
+-- What soundness says of a set's numbers. Assumes nothing.
+use Prim.Native.Nat.{_≤_}
+use mathlib.Core.Path.{_≡_, refl, sym}
+use mathlib.Core.Bool.{Bool, true, false, _&&_, true≢false}
+use lib.Dec.{leb}
+use borrow.Author.Tests.{leb-true}
+use Rattle.at.specs.Processor as processor
+use Rattle.sound.specs.Sound.{soundState}
+use Rattle.session.specs.Session.{digitsHeld}
+use Rattle.set.specs.declared.Set.{Set}
+use Rattle.set.specs.Sound.{sound}
+
+left : (a b : Bool) → a && b ≡ true → a ≡ true
+left true b e = refl
+left false b e = e
+
+right : (a b : Bool) → a && b ≡ true → b ≡ true
+right true b e = e
+right false b e = absurd (true≢false (sym e))
+
+module _ (s : Set) (h : sound s ≡ true) where
+  pub sound-digits : s .session .digits .len ≤ 76
+  unfolding sound
+  sound-digits = leb-true _ _ (left (leb (s .session .digits .len) 76) _ h)
+
+  pub sound-count : s .session .m ≤ 5000000
+  unfolding sound
+  sound-count =
+      leb-true _ _
+      (left (leb (s .session .m) 5000000) _
+      (right (processor.sound (s .processor)) _
+      (right (soundState (s .session .stage) (digitsHeld (s .session)) (s .rate)) _ (right (leb (s .session .digits .len) 76) _ h))))

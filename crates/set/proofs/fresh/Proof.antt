@@ -1,0 +1,16 @@
+-- `fresh` meets its contract: a fresh processor and an idle session. Assumes nothing.
+use borrow.Author.Needs.{needs}
+use Rattle.set.proofs.fresh.Statement.{statement}
+use Rattle.set.proofs.fresh.Tie as tie
+
+new-requires : tie.Need-new-requires
+new-requires c κs = search needs
+
+new-requires-2 : tie.Need-new-requires-2
+new-requires-2 c κs = search needs
+
+returns : tie.Need-returns
+returns c = rw (c .new2 .ensures, c .before .new .ensures)
+
+pub fresh-spec : {M : Type 1} → statement M
+fresh-spec = tie.close (tie.spec new-requires new-requires-2 returns)
