@@ -1,2 +1,3 @@
 pub mod Prefix
 pub mod Ranges
+pub mod Cueing

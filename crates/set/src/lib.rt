@@ -3,14 +3,18 @@
 use at::AtProcessor;
 use at::Control;
 use command::Line;
+use keys::Digits;
 use reply::Reply;
 use session::Session;
 use session::SessionState;
 ghost use mathlib.Core.Path.{_≡_};
 ghost use mathlib.Core.Bool.{true};
 ghost use lib.Dec.{leb, ltb};
+ghost use Prim.Native.Nat.{_+_, _*_, _/_, _<_, _≤_};
+ghost use Rattle.math.specs.Float.{one};
+ghost use Rattle.schedule.specs.Time.{samplesIn};
+ghost use Rattle.schedule.specs.Length.{clickTime};
 ghost use lib.ListN.{length, drop};
-ghost use lib.Ieee.{Float};
 ghost use Rattle.ascii.specs.Front.{put, putLength};
 ghost use Rattle.reply.specs.Texts.{textOf};
 ghost use Rattle.at.specs.Processor.{commandMode};
@@ -153,6 +157,18 @@ fn control(control: Control, session: Session, line: Line, rate: u32) -> Session
         Control::Answer => Session::answer(),
         Control::Hangup => Session::hangup(),
     }
+}
+
+// The middle of a digit's tone: 0.05 s into it.
+fn cue_sample(position: u32, rate: u32) -> u64
+    requires { ⌜ (position < 76) × (8000 ≤ rate) × (rate ≤ 192000) ⌝ }
+    ensures { λ m. ⌜ m ≡ samplesIn clickTime rate + samplesIn one rate + (20 * position + 5) * rate / 100 + 1 ⌝ }
+{
+    let click = schedule::stage_samples_for(stage::OFF_HOOK_S, rate);
+    let tone = schedule::stage_samples_for(stage::DIAL_TONE_S, rate);
+    let wide = rate as u64;
+    let place = (20 * (position as u64) + 5) * wide / 100;
+    click + tone + place + 1
 }
 
 // A call on a set that is not sound, or whose cause 01 lists.
@@ -375,4 +391,84 @@ impl Set {
             ring: 0,
         }
     }
+
+    // A sample number, from 1 in the whole overture, in the tone of the digit at a position.
+    pub fn cue(self, position: u32) -> Cued
+        ensures { λ c. ⌜ CueIs self position c ⌝ }
+    {
+        if self.sound() {
+            return self.cue_sound(position);
+        }
+        Cued {
+            refusal: Refusal::Unsound,
+            sample: 0,
+        }
+    }
+
+    fn cue_sound(self, position: u32) -> Cued
+        requires { ⌜ sound self ≡ true ⌝ }
+        ensures { λ c. ⌜ CueIs self position c ⌝ }
+    {
+        let session = self.session;
+        let state = session.state;
+        let len = session.digits.len;
+        if (state.number() == 1) & ((position as usize) < len) {
+            return Cued {
+                refusal: Refusal::Accepted,
+                sample: cue_sample(position, self.rate),
+            };
+        }
+        Cued {
+            refusal: Refusal::Position,
+            sample: 0,
+        }
+    }
+
+    // The plain readers.
+    pub fn in_command_mode(self) -> bool
+        ensures { λ r. ⌜ r ≡ commandMode (self .processor) ⌝ }
+    {
+        self.processor.in_command_mode
+    }
+
+    pub fn state(self) -> SessionState
+        ensures { λ r. ⌜ r ≡ self .session .state ⌝ }
+    {
+        let session = self.session;
+        session.state
+    }
+
+    // The number of the stage shown; 0 for none.
+    pub fn stage(self) -> u8
+        ensures { λ r. ⌜ r ≡ self .session .shown ⌝ }
+    {
+        self.session.shown
+    }
+
+    pub fn m(self) -> u32
+        ensures { λ r. ⌜ r ≡ self .session .m ⌝ }
+    {
+        self.session.m
+    }
+
+    pub fn rate(self) -> u32
+        ensures { λ r. ⌜ r ≡ self .rate ⌝ }
+    {
+        self.rate
+    }
+
+    pub fn digits(self) -> Digits
+        ensures { λ r. ⌜ r ≡ self .session .digits ⌝ }
+    {
+        self.session.digits
+    }
+}
+
+// Writes the text of a reply's code at the buffer's front and answers its length; 0 for a short
+// buffer or another code.
+pub fn write_reply(code: u8, out: &mut [u8]) -> usize
+    ensures { λ r. ⌜ r ≡ putLength (textOf code) (length (now (out .entry))) ⌝ }
+    ensures { λ _. ⌜ now (out .exit) ≡ put (textOf code) (now (out .entry)) ⌝ }
+{
+    reply::write_reply(code, out)
 }
