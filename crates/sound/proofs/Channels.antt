@@ -2,16 +2,17 @@
 use mathlib.Core.Path.{_≡_, refl, sym, subst}
 use mathlib.Core.Bool.{Bool, true, false, _&&_}
 use mathlib.Core.List.{List}
-use Prim.Native.Nat.{ℕ, zero, suc, _+_, _*_, _^_, _≤_, _<_}
-use native.Mathlib.Nat.{le-of-lt, zero-mul}
+use Prim.Native.Nat.{ℕ, _+_, _*_, _^_, _≤_, _<_}
+use native.Mathlib.Nat.{le-trans, le-of-lt}
 use native.Mathlib.Omega.{arith}
 use lib.Dec.{T, lit≤}
 use lib.Pow.{pow-pos}
-use lib.Ieee.{Float, binary64, eq}
+use lib.Ieee.{Float, binary64, round, eq, le}
+use lib.Ieee.Exact.{HasValue}
 use lib.Ieee.Fits.{and-l, and-r, and-i, div-fits}
+use lib.Ieee.Order.{round-mono}
 use Rattle.math.specs.Float.{ofNat}
-use Rattle.math.proofs.Error.{Rounded, round-at}
-use Rattle.math.proofs.Values.{nat-value, div-by}
+use Rattle.math.proofs.Values.{nat-value, div-by, of-le}
 use Rattle.nco.specs.declared.Nco.{Nco}
 use Rattle.nco.specs.Nco.{steppedNco}
 use Rattle.frame.specs.Frame.{bitAt}
@@ -19,6 +20,7 @@ use Rattle.schedule.specs.Time.{oneMore}
 use Rattle.schedule.specs.Symbols.{symbolStep, symbolEnds, nextPhase, inSymbol}
 use Rattle.schedule.proofs.Count.{one-more-is}
 use Rattle.schedule.proofs.Samples.{rate-value}
+use Rattle.schedule.proofs.Symbols.{step-value}
 use Rattle.schedule.proofs.SymbolPhase.{zero-in-symbol, phase-stays}
 use Rattle.fsk.specs.declared.FskChannel.{FskChannel}
 use Rattle.fsk.specs.Channel.{toneOf, freshChannel, doneNext, ncoNext, nextChannel}
@@ -43,36 +45,33 @@ done-at-most true k N h B = subst (λ (z : ℕ). z ≤ N) (sym (one-more-is k (f
     next k N h = omega arith
 done-at-most false k N h B = le-of-lt h
 
+-- ---- the step is above 0, being 1 / 2048 or more
+small-value : HasValue (round binary64 false 1 2048) false (2 ^ 51) (2 ^ 62)
+unfolding round
+small-value = (refl, refl)
+
 module _ (r : ℕ) (lo : 8000 ≤ r) (hi : r ≤ 192000) where
-  step-rounded : Rounded 62 5 300 r (symbolStep r)
+  step-above : T (le (round binary64 false 1 2048) (symbolStep r))
   unfolding symbolStep
-  step-rounded = subst (Rounded 62 5 300 r) (sym (div-by binary64 (ofNat 300) (ofNat r) 300 r 1 (pow-pos 0) (pos-of lo) (nat-value 300 (lit≤ tt)) (rate-value r hi))) (round-at 10 1012 5 300 r refl (pos-of lo) (wide hi) (fine lo) (lit≤ tt))
+  step-above =
+      subst (λ (x : Float). T (le (round binary64 false 1 2048) x)) (sym (div-by binary64 (ofNat 300) (ofNat r) 300 r 1 (pow-pos 0) (some lo) (nat-value 300 (lit≤ tt)) (rate-value r hi)))
+      (round-mono binary64 1 2048 300 r (lit≤ tt) (some lo) (far hi))
     where
-      pos-of : 8000 ≤ r → 0 < r
-      pos-of h = omega arith
+      some : 8000 ≤ r → 0 < r
+      some h = omega arith
 
-      wide : r ≤ 192000 → r ≤ 300 * 2 ^ 10
-      wide h = omega arith
+      far : r ≤ 192000 → 1 * r ≤ 300 * 2048
+      far h = omega arith
 
-      fine : 8000 ≤ r → 300 * 2 ^ 10 < 2 ^ 6 * r
-      fine h = omega arith
-
-  step-pos : 0 < step-rounded .at
-  step-pos = go (step-rounded .at) (step-rounded .under)
-    where
-      none : (x : ℕ) → x ≡ 0 → 2 * (300 * 2 ^ 62) ≤ 2 * x + r * 2 ^ 5 → ⊥
-      none x e h = omega arith
-
-      go : (S : ℕ) → 2 * (300 * 2 ^ 62) ≤ 2 * (S * r) + r * 2 ^ 5 → 0 < S
-      go zero h = absurd (none (0 * r) (zero-mul r) h)
-      go (suc S) h = omega arith
+  step-pos : 0 < step-value r lo hi .0
+  step-pos = le-trans (lit≤ tt) (of-le (round binary64 false 1 2048) (symbolStep r) (2 ^ 51) (step-value r lo hi .0) (2 ^ 62) (pow-pos 62) small-value (step-value r lo hi .1) step-above)
 
   step-held : Double (symbolStep r)
   unfolding symbolStep
   step-held = div-fits binary64 (ofNat 300) (ofNat r)
 
   step-is : (x : Float) → Double x → T (eq x (symbolStep r)) → x ≡ symbolStep r
-  step-is x h e = equal x (symbolStep r) (step-rounded .at) (2 ^ 62) step-pos (pow-pos 62) (step-rounded .value) h step-held e
+  step-is x h e = equal x (symbolStep r) (step-value r lo hi .0) (2 ^ 62) step-pos (pow-pos 62) (step-value r lo hi .1) h step-held e
 
   -- the test's three parts
   record Parts (f : FskChannel) : Type 0 where
@@ -100,7 +99,7 @@ module _ (r : ℕ) (lo : 8000 ≤ r) (hi : r ≤ 192000) where
       made _ (record {
         nco = fresh-ok r lo hi (toneOf (bitAt payload 0)) (tone-hertz (bitAt payload 0));
         phase = zero-in-symbol;
-        step = eq-self (symbolStep r) false (step-rounded .at) (2 ^ 62) (step-rounded .value);
+        step = eq-self (symbolStep r) false (step-value r lo hi .0) (2 ^ 62) (step-value r lo hi .1);
       })
 
   nco-next-ok : (b : Bool) (o : Nco) (payload : List ℕ) (k : ℕ) → HeldNco o → T (ncoOk o r) → T (ncoOk (ncoNext b o payload k) r)

@@ -86,7 +86,7 @@ unfolding cjAt
 cj-held true f z r h = h
 cj-held false f z r h = channel-held f _ h
 
-generated-held : (s : StageState) (digits : List ℕ) (r : ℕ) → Held s → Held (generateOf s digits r .state)
+pub generated-held : (s : StageState) (digits : List ℕ) (r : ℕ) → Held s → Held (generateOf s digits r .state)
 unfolding generateOf offHookOf dialToneOf diallingOf dialStepOf ringbackOf ciOf ansamOf answerOf cmJmOf cjOf trainingOf connectedOf
 generated-held (OffHook rng n) digits r h = tt
 generated-held (DialTone a b n) digits r h = sounded-held true a b h

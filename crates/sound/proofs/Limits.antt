@@ -1,6 +1,6 @@
 -- What the tests of the rate and of the digits tell as numbers. Assumes nothing.
 use mathlib.Core.Path.{_≡_, sym, subst}
-use mathlib.Core.Bool.{true}
+use mathlib.Core.Bool.{Bool, true}
 use mathlib.Core.List.{List}
 use Prim.Native.Nat.{ℕ, _≤_}
 use lib.Dec.{T, leb, leb→le}
@@ -9,7 +9,7 @@ use lib.Ieee.Fits.{and-l, and-r}
 use Rattle.keys.specs.Keys.{allKeys}
 use Rattle.sound.specs.Sound.{rateOk, digitsOk}
 
-pub holds : {b : _} → b ≡ true → T b
+pub holds : {b : Bool} → b ≡ true → T b
 holds e = subst T (sym e) tt
 
 pub rate-low : (r : ℕ) → rateOk r ≡ true → 8000 ≤ r

@@ -59,7 +59,7 @@ bitsOk f N r = fskOk f r && ltb (f .done) N
 unfoldable pub cjOk : FskChannel → ℕ → ℕ → Bool
 cjOk f z r = fskOk f r && (leb (f .done) 60 && ltb z (samplesIn cjSilence r))
 
--- of the state, d and r
+-- a state by its kind, of d digits at the rate r; the click's noise is any number
 unfoldable pub stateOk : StageState → ℕ → ℕ → Bool
 stateOk (OffHook rng n) d r = ltb n (samplesIn clickTime r)
 stateOk (DialTone a b n) d r = tonesOk a b n one r
@@ -72,5 +72,6 @@ stateOk (Cj f z) d r = cjOk f z r
 stateOk (Training f) d r = bitsOk f 300 r
 stateOk Connected d r = true
 
+-- with the digits and the rate that it is judged by
 unfoldable pub soundState : StageState → List ℕ → ℕ → Bool
 soundState s digits r = rateOk r && (digitsOk digits && stateOk s (length digits) r)

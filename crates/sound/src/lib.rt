@@ -1,5 +1,5 @@
-// Whether a stage's state is sound. Every call on a set asks, so nothing is counted up to:
-// whether Dialling goes on is told by the digit at n alone.
+// Whether a stage's state is sound, as 01 lists it. Every call on a set asks, so no length is
+// looked for by counting: whether Dialling goes on is told by the digit at n alone.
 use fsk::FskChannel;
 use nco::Nco;
 use stage::StageState;
@@ -29,12 +29,14 @@ const CJ_BITS: u32 = 60;
 
 const TRAINING_BITS: u32 = 300;
 
+// Rate in limits.
 pub fn rate_ok(rate: u32) -> bool
     ensures { λ r. ⌜ r ≡ rateOk rate ⌝ }
 {
     (rate >= MIN_RATE) & (rate <= MAX_RATE)
 }
 
+// At most 76, all keys. Of more than that none is looked at.
 pub fn digits_ok(digits: &[u8]) -> bool
     ensures { λ r. ⌜ r ≡ digitsOk (now (digits .entry)) ⌝ }
 {
@@ -44,24 +46,28 @@ pub fn digits_ok(digits: &[u8]) -> bool
     false
 }
 
+// A phase or a step is in [0, TAU).
 fn in_turn(x: f64) -> bool
     ensures { λ r. ⌜ r ≡ inTurn x ⌝ }
 {
     (x >= 0.0) & (x < TAU)
 }
 
+// A symbol phase is in [0, 1).
 fn in_symbol(phase: f64) -> bool
     ensures { λ r. ⌜ r ≡ inSymbol phase ⌝ }
 {
     (phase >= 0.0) & (phase < 1.0)
 }
 
+// An oscillator's rate is r.
 fn nco_ok(o: Nco, rate: u32) -> bool
     ensures { λ r. ⌜ r ≡ ncoOk o rate ⌝ }
 {
     in_turn(o.phase) & (in_turn(o.step) & (o.rate == rate as f64))
 }
 
+// A symbol step is 300 / r.
 fn fsk_ok(fsk: FskChannel, rate: u32) -> bool
     ensures { λ r. ⌜ r ≡ fskOk fsk rate ⌝ }
 {
@@ -69,6 +75,7 @@ fn fsk_ok(fsk: FskChannel, rate: u32) -> bool
     nco_ok(nco, rate) & (in_symbol(fsk.phase) & (fsk.step == schedule::symbol_step(rate)))
 }
 
+// A digit position is below d, or 0 with d = 0.
 fn digit_ok(digit: u64, d: u64) -> bool
     ensures { λ r. ⌜ r ≡ digitOk digit d ⌝ }
 {
@@ -124,12 +131,14 @@ fn bits_ok(fsk: FskChannel, bits: u32, rate: u32) -> bool
     fsk_ok(fsk, rate) & (fsk.done < bits)
 }
 
+// All of Cj's bits may be done: its zeros come after them.
 fn cj_ok(fsk: FskChannel, silence: u32, rate: u32) -> bool
     ensures { λ r. ⌜ r ≡ cjOk fsk silence rate ⌝ }
 {
     fsk_ok(fsk, rate) & ((fsk.done <= CJ_BITS) & goes_on(silence, stage::CJ_SILENCE_S, rate))
 }
 
+// A state by its kind, once rate and digits are known to be in their limits.
 fn state_ok(state: StageState, d: u64, rate: u32) -> bool
     requires { ⌜ rateOk rate ≡ true ⌝ }
     requires { ⌜ d ≤ 76 ⌝ }
@@ -155,6 +164,7 @@ fn state_ok(state: StageState, d: u64, rate: u32) -> bool
     }
 }
 
+// The digits and the rate are asked too, since a stage's own end follows from them.
 pub fn sound_state(state: StageState, digits: &[u8], rate: u32) -> bool
     ensures { λ r. ⌜ r ≡ soundState state (now (digits .entry)) rate ⌝ }
 {
