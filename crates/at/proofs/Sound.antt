@@ -1,6 +1,7 @@
 -- A sound processor stays sound: by a typed byte, a lapse of time and forced data mode, clause by clause of the definitions.
 -- Assumes nothing.
 use Prim.Native.Nat.{ℕ, _≤_, _<_, zero-le}
+use Prim.Native.Char.{code}
 use native.Mathlib.Omega.{arith}
 use mathlib.Core.Path.{_≡_, refl}
 use mathlib.Core.Bool.{Bool, true, false, _&&_, and-eq-true-iff}
@@ -68,7 +69,7 @@ kept-data p byte false false e s = s
 
 kept-typed : (mode : Bool) (p : AtProcessor) (byte : ℕ) (carrier : Bool) (room : ℕ) → Sound p → Sound (typedByteIf mode p byte carrier room .processor)
 unfolding commandByte dataByte
-kept-typed true p byte carrier room s = kept-command (eqb byte 10) (eqb byte 13) p byte carrier s
+kept-typed true p byte carrier room s = kept-command (eqb byte (code "\n")) (eqb byte (code "\r")) p byte carrier s
 kept-typed false p byte carrier room s = kept-data p byte (withheld p byte) (ltb (pluses p) room) refl s
 
 pub sound-typed : (p : AtProcessor) (byte : ℕ) (carrier : Bool) (room : ℕ) → sound p ≡ true → sound (typedByte p byte carrier room .processor) ≡ true
