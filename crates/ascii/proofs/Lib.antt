@@ -1,1 +1,2 @@
+-- Laws on buffers.
 pub mod Front

@@ -1,1 +1,2 @@
+-- Laws on texts.
 pub mod Other
