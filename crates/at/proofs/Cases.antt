@@ -1,8 +1,11 @@
 -- 01, "Proving cases": those of the AT processor, computed by its definitions. Assumes nothing.
 use Prim.Native.Nat.{ℕ}
+use Prim.Native.Char.{code}
+use Prim.Native.String.{String}
 use mathlib.Core.Path.{_≡_, refl}
 use mathlib.Core.List.{List, [], _∷_}
 use mathlib.Core.Bool.{true, false}
+use Rattle.ascii.specs.Ascii.{ascii}
 use Rattle.reply.specs.declared.Code.the-variants.{NoCarrier, Error}
 use Rattle.reply.specs.declared.Reply.{Reply}
 use Rattle.reply.specs.declared.Reply.the-variants.{None, One}
@@ -23,27 +26,27 @@ typing [] p = p
 typing (byte ∷ bytes) p = typing bytes (typedByte p byte false 4 .processor)
 
 -- the answer to the CR after it
-pub answerTo : List ℕ → Fed
+pub answerTo : String → Fed
 unfolding typing typedByte commandByte ended pushed upper uppercased begins is commandOf executed
-answerTo line = typedByte (typing line fresh) 13 false 4
+answerTo line = typedByte (typing (ascii line) fresh) (code "\r") false 4
 
 -- ATDT12
-pub atdt12 : (answerTo (65 ∷ 84 ∷ 68 ∷ 84 ∷ 49 ∷ 50 ∷ []) .control ≡ Dial) × (afterAtdt (answerTo (65 ∷ 84 ∷ 68 ∷ 84 ∷ 49 ∷ 50 ∷ [])) ≡ 49 ∷ 50 ∷ [])
+pub atdt12 : (answerTo "ATDT12" .control ≡ Dial) × (afterAtdt (answerTo "ATDT12") ≡ ascii "12")
 unfolding answerTo
 atdt12 = (refl, refl)
 
 -- atdtabcdef: after ATDT stands ABCDEF, of which ABCD are keys
-pub atdtabcdef : (answerTo (97 ∷ 116 ∷ 100 ∷ 116 ∷ 97 ∷ 98 ∷ 99 ∷ 100 ∷ 101 ∷ 102 ∷ []) .control ≡ Dial) × (afterAtdt (answerTo (97 ∷ 116 ∷ 100 ∷ 116 ∷ 97 ∷ 98 ∷ 99 ∷ 100 ∷ 101 ∷ 102 ∷ [])) ≡ 65 ∷ 66 ∷ 67 ∷ 68 ∷ 69 ∷ 70 ∷ [])
+pub atdtabcdef : (answerTo "atdtabcdef" .control ≡ Dial) × (afterAtdt (answerTo "atdtabcdef") ≡ ascii "ABCDEF")
 unfolding answerTo
 atdtabcdef = (refl, refl)
 
 -- ATDP1
-pub atdp1 : answerTo (65 ∷ 84 ∷ 68 ∷ 80 ∷ 49 ∷ []) .reply ≡ One Error
+pub atdp1 : answerTo "ATDP1" .reply ≡ One Error
 unfolding answerTo
 atdp1 = refl
 
 -- AT DT1
-pub at-dt1 : answerTo (65 ∷ 84 ∷ 32 ∷ 68 ∷ 84 ∷ 49 ∷ []) .reply ≡ One Error
+pub at-dt1 : answerTo "AT DT1" .reply ≡ One Error
 unfolding answerTo
 at-dt1 = refl
 
@@ -54,25 +57,25 @@ after ns p = lapse p ns false .processor
 
 pub plusAfter : ℕ → AtProcessor → AtProcessor
 unfolding after typing typedByte dataByte withheld
-plusAfter ns p = typing (43 ∷ []) (after ns p)
+plusAfter ns p = typing (ascii "+") (after ns p)
 
 -- the bytes that such a plus sends
 pub sentAfter : ℕ → AtProcessor → List ℕ
 unfolding after sent released withheld
-sentAfter ns p = sent (after ns p) 43
+sentAfter ns p = sent (after ns p) (code "+")
 
 -- a plus at idle 1 s is withheld, at 999,999,999 ns sent
-pub first-plus : (sentAfter 1_000_000_000 (online fresh) ≡ []) × (sentAfter 999_999_999 (online fresh) ≡ 43 ∷ [])
+pub first-plus : (sentAfter 1_000_000_000 (online fresh) ≡ []) × (sentAfter 999_999_999 (online fresh) ≡ ascii "+")
 unfolding sentAfter
 first-plus = (refl, refl)
 
 -- the second plus 1,000,000,001 ns later: two sent, and neither opens an escape
-pub second-plus : (sentAfter 1_000_000_001 (plusAfter 1_000_000_000 (online fresh)) ≡ 43 ∷ 43 ∷ []) × (pluses (plusAfter 1_000_000_001 (plusAfter 1_000_000_000 (online fresh))) ≡ 0)
+pub second-plus : (sentAfter 1_000_000_001 (plusAfter 1_000_000_000 (online fresh)) ≡ ascii "++") × (pluses (plusAfter 1_000_000_001 (plusAfter 1_000_000_000 (online fresh))) ≡ 0)
 unfolding sentAfter plusAfter
 second-plus = (refl, refl)
 
 -- a fourth plus: four sent
-pub fourth-plus : sentAfter 0 (plusAfter 0 (plusAfter 0 (plusAfter 1_000_000_000 (online fresh)))) ≡ 43 ∷ 43 ∷ 43 ∷ 43 ∷ []
+pub fourth-plus : sentAfter 0 (plusAfter 0 (plusAfter 0 (plusAfter 1_000_000_000 (online fresh)))) ≡ ascii "++++"
 unfolding sentAfter plusAfter
 fourth-plus = refl
 

@@ -1,5 +1,6 @@
 -- A plus that is withheld finds at most two held: the rule has a case for none, one and two. Assumes nothing.
 use Prim.Native.Nat.{ℕ, _≤_}
+use Prim.Native.Char.{code}
 use native.Mathlib.Omega.{arith}
 use mathlib.Core.Path.{_≡_, refl}
 use mathlib.Core.Bool.{Bool, true, false, _&&_, _||_}
@@ -18,4 +19,4 @@ few n false long short false false false e0 e1 e2 w = let z : _≡_ {A = ℕ} 0 
 
 pub withheld-few : (p : AtProcessor) (byte : ℕ) → withheld p byte ≡ true → pluses p ≤ 2
 unfolding withheld
-withheld-few p byte w = few (pluses p) (eqb byte 43) (leb guardTime (p .idle)) (leb (p .idle) guardTime) _ _ _ refl refl refl w
+withheld-few p byte w = few (pluses p) (eqb byte (code "+")) (leb guardTime (p .idle)) (leb (p .idle) guardTime) _ _ _ refl refl refl w

@@ -1,3 +1,4 @@
+-- Laws on the processor, and its proving cases.
 pub mod Cases
 pub mod Few
 pub mod Sound

@@ -1,6 +1,7 @@
 -- A byte that 01 does not decline joins the line; a line that dials holds ATDT, and none is longer than 80 bytes.
 -- Assumes nothing.
 use Prim.Native.Nat.{ℕ, _≤_, _<_, zero-le}
+use Prim.Native.Char.{code}
 use native.Mathlib.Numerals.{add-one}
 use native.Mathlib.Omega.{arith}
 use mathlib.Core.Path.{_≡_, refl}
@@ -28,7 +29,7 @@ room-left : (n : ℕ) → n ≤ 80 → (t : Bool) → eqb n 80 ≡ t → (t && t
 room-left n l true e f = let z : _≡_ {A = ℕ} 0 1 = cc in omega arith
 room-left n l false e f = let d : n ≡ 80 → ⊥ = eqb-false n 80 e in omega arith
 
-pub joins : (p : AtProcessor) (byte : ℕ) → sound p ≡ true → length (lineOf p .bytes) ≡ 80 → commandMode p ≡ true → eqb byte 10 ≡ false → eqb byte 13 ≡ false → lineFull p byte ≡ false
+pub joins : (p : AtProcessor) (byte : ℕ) → sound p ≡ true → length (lineOf p .bytes) ≡ 80 → commandMode p ≡ true → eqb byte (code "\n") ≡ false → eqb byte (code "\r") ≡ false → lineFull p byte ≡ false
     → typed (pushed (lineOf p) byte) ≡ typed (lineOf p) ++ (byte ∷ [])
 unfolding lineFull pushed
 joins p byte e long mode lf cr f =
@@ -79,7 +80,7 @@ ended-data false false p = record { holds = no-dial; fits = zero-le }
 
 ended-typed : (mode : Bool) (p : AtProcessor) (byte : ℕ) (carrier : Bool) (room : ℕ) → lineOf p .len ≤ 80 → Ended (typedByteIf mode p byte carrier room)
 unfolding commandByte dataByte
-ended-typed true p byte carrier room l = ended-command (eqb byte 10) (eqb byte 13) p byte carrier l
+ended-typed true p byte carrier room l = ended-command (eqb byte (code "\n")) (eqb byte (code "\r")) p byte carrier l
 ended-typed false p byte carrier room l = ended-data (withheld p byte) (ltb (pluses p) room) p
 
 pub line-ended : (p : AtProcessor) (byte : ℕ) (carrier : Bool) (room : ℕ) → sound p ≡ true → Ended (typedByte p byte carrier room)

@@ -1,6 +1,7 @@
 -- The bytes sent: the held pluses and then the byte, at the outbox's front; at most four, and counted by the answer.
 -- Assumes nothing.
 use Prim.Native.Nat.{ℕ, _+_, _≤_, _<_, zero-le}
+use Prim.Native.Char.{code}
 use native.Mathlib.Numerals.{add-one}
 use native.Mathlib.Omega.{arith}
 use mathlib.Core.Path.{_≡_, refl}
@@ -10,20 +11,21 @@ use lib.ListN.{length, drop, set, replicate, length-append, length-replicate}
 use lib.Seq.{drop-cons, set-at}
 use lib.Dec.{ltb, eqb}
 use borrow.Author.Tests.{lt-ltb}
-use Rattle.reply.specs.Texts.{put}
-use Rattle.reply.proofs.Front.{put-fits, put-none, put-short}
+use Rattle.ascii.specs.Front.{put}
+use Rattle.ascii.proofs.Front.{put-fits, put-none, put-short}
 use Rattle.at.specs.declared.AtProcessor.{AtProcessor}
 use Rattle.at.specs.Processor.{commandMode, lineOf, pluses, sound}
-use Rattle.at.specs.Escape.{withheld, released, releasedIf, dataByte, dataByteIf}
+use Rattle.at.specs.Escape.{withheld, plusesThen, released, releasedIf, dataByte, dataByteIf}
 use Rattle.at.specs.At.{ended, commandByte, commandByteIf, typedByte, typedByteIf, sent, sentIf}
 use Rattle.at.proofs.Sound.{parts}
 
-pub closed : (n v byte : ℕ) (was : List ℕ) → n < length was → set (replicate n v ++ drop n was) n byte ≡ (replicate n v ++ (byte ∷ [])) ++ drop (n + 1) was
-closed n v byte was l =
-    rw (add-one, drop-cons was n 0, append-assoc) (set-at (replicate n v) _ _ byte n (length-replicate n v))
+-- the byte stored after the pluses
+pub closed : (n byte : ℕ) (was : List ℕ) → n < length was → set (replicate n (code "+") ++ drop n was) n byte ≡ plusesThen n byte ++ drop (n + 1) was
+closed n byte was l =
+    rw (add-one, drop-cons was n 0, append-assoc) (set-at (replicate n (code "+")) _ _ byte n (length-replicate n (code "+")))
 
-pub length-closed : (n v byte : ℕ) → length (replicate n v ++ (byte ∷ [])) ≡ n + 1
-length-closed n v byte = simp (length-append, length-replicate)
+pub length-closed : (n byte : ℕ) → length (plusesThen n byte) ≡ n + 1
+length-closed n byte = simp (length-append, length-replicate)
 
 -- the outbox after a byte in data mode: withheld, sent, or with no room for it
 module _ (p : AtProcessor) (byte : ℕ) (was : List ℕ) where
@@ -31,14 +33,14 @@ module _ (p : AtProcessor) (byte : ℕ) (was : List ℕ) where
   unfolding released
   outbox-withheld w = rw w (put-none was)
 
-  pub outbox-sent : withheld p byte ≡ false → pluses p < length was → put (released p byte) was ≡ (replicate (pluses p) 43 ++ (byte ∷ [])) ++ drop (pluses p + 1) was
+  pub outbox-sent : withheld p byte ≡ false → pluses p < length was → put (released p byte) was ≡ plusesThen (pluses p) byte ++ drop (pluses p + 1) was
   unfolding released
   outbox-sent w l =
-      rw (w, put-fits (replicate (pluses p) 43 ++ (byte ∷ [])) was (rw length-closed (omega arith)), length-closed)
+      rw (w, put-fits (plusesThen (pluses p) byte) was (rw length-closed (omega arith)), length-closed)
 
   pub outbox-short : withheld p byte ≡ false → length was ≤ pluses p → put (released p byte) was ≡ was
   unfolding released
-  outbox-short w l = rw w (put-short (replicate (pluses p) 43 ++ (byte ∷ [])) was (rw length-closed (omega arith)))
+  outbox-short w l = rw w (put-short (plusesThen (pluses p) byte) was (rw length-closed (omega arith)))
 
 few-released : (w : Bool) (p : AtProcessor) (byte : ℕ) → pluses p ≤ 3 → length (releasedIf w p byte) ≤ 4
 few-released true p byte l = zero-le
@@ -67,7 +69,7 @@ count-data false p byte room l = rw (lt-ltb _ _ l, length-closed)
 
 count-typed : (mode : Bool) (p : AtProcessor) (byte : ℕ) (carrier : Bool) (room : ℕ) → pluses p < room → typedByteIf mode p byte carrier room .sent ≡ length (sentIf mode p byte)
 unfolding commandByte dataByte released
-count-typed true p byte carrier room l = count-command (eqb byte 10) (eqb byte 13) _ p byte carrier refl
+count-typed true p byte carrier room l = count-command (eqb byte (code "\n")) (eqb byte (code "\r")) _ p byte carrier refl
 count-typed false p byte carrier room l = count-data (withheld p byte) p byte room l
 
 -- with an outbox that 01 does not decline, the answer counts them

@@ -1,16 +1,17 @@
 -- A sound processor stays sound: by a typed byte, a lapse of time and forced data mode, clause by clause of the definitions.
 -- Assumes nothing.
-use Prim.Native.Nat.{ℕ, _≤_, _<_, zero-le}
+use Prim.Native.Nat.{ℕ, _≤_, _<_}
+use Prim.Native.Char.{code}
 use native.Mathlib.Omega.{arith}
 use mathlib.Core.Path.{_≡_, refl}
 use mathlib.Core.Bool.{Bool, true, false, _&&_, and-eq-true-iff}
-use lib.Dec.{leb, ltb, eqb, lit<}
+use lib.Dec.{leb, ltb, eqb}
 use borrow.Author.Tests.{leb-true, leb-false, ltb-true, le-leb, lt-ltb}
 use Rattle.command.specs.declared.Command.{Command}
 use Rattle.command.specs.declared.Command.the-variants.{At, Atz, Ati, Ata, Ath, Ato, Atdt, Unknown}
 use Rattle.command.specs.Line.{pushed, pushedIf}
 use Rattle.at.specs.declared.AtProcessor.{AtProcessor}
-use Rattle.at.specs.Processor.{commandMode, lineOf, pluses, seen, downTime, holdTime, sound, fresh, withEscape, added}
+use Rattle.at.specs.Processor.{commandMode, lineOf, pluses, seen, downTime, holdTime, sound, fresh, withLine, withEscape, added}
 use Rattle.at.specs.Command.{executed}
 use Rattle.at.specs.Escape.{guardTime, withheld, dataByte, dataByteIf, escaped, escapedIf, waited, waitedIf}
 use Rattle.at.specs.Carrier.{downFor, downIf, polled, polledIf}
@@ -37,39 +38,39 @@ whole p s = rw (le-leb _ _ (s .line), le-leb _ _ (s .held), lt-ltb _ _ (s .down)
 
 kept-executed : (command : Command) (carrier : Bool) (p : AtProcessor) → Sound p → Sound (executed command carrier p .processor)
 unfolding executed
-kept-executed At carrier p s = s
-kept-executed Atz carrier p s = record { line = s .line; held = zero-le; down = s .down }
-kept-executed Ati carrier p s = s
-kept-executed Ata carrier p s = record { line = s .line; held = zero-le; down = s .down }
-kept-executed Ath carrier p s = record { line = s .line; held = s .held; down = s .down }
-kept-executed Ato true p s = record { line = s .line; held = zero-le; down = s .down }
-kept-executed Ato false p s = s
-kept-executed Atdt carrier p s = record { line = s .line; held = zero-le; down = s .down }
-kept-executed Unknown carrier p s = s
+kept-executed At carrier p s = omega arith
+kept-executed Atz carrier p s = omega arith
+kept-executed Ati carrier p s = omega arith
+kept-executed Ata carrier p s = omega arith
+kept-executed Ath carrier p s = omega arith
+kept-executed Ato true p s = omega arith
+kept-executed Ato false p s = omega arith
+kept-executed Atdt carrier p s = omega arith
+kept-executed Unknown carrier p s = omega arith
 
 kept-ended : (empty : Bool) (p : AtProcessor) (carrier : Bool) → Sound p → Sound (endedIf empty p carrier .processor)
-kept-ended true p carrier s = s
-kept-ended false p carrier s = kept-executed _ carrier _ (record { line = zero-le; held = s .held; down = s .down })
+kept-ended true p carrier s = omega arith
+kept-ended false p carrier s = kept-executed _ carrier _ (omega arith)
 
-kept-pushed : (p : AtProcessor) (byte : ℕ) (t : Bool) → ltb (lineOf p .len) 80 ≡ t → lineOf p .len ≤ 80 → pushedIf t (lineOf p) byte .len ≤ 80
-kept-pushed p byte true e l = omega (arith, ltb-true (lineOf p .len) 80 e)
-kept-pushed p byte false e l = l
+kept-pushed : (t : Bool) (p : AtProcessor) (byte : ℕ) → ltb (lineOf p .len) 80 ≡ t → Sound p → Sound (withLine (pushedIf t (lineOf p) byte) p)
+kept-pushed true p byte e s = omega (arith, ltb-true (lineOf p .len) 80 e)
+kept-pushed false p byte e s = omega arith
 
 kept-command : (lf cr : Bool) (p : AtProcessor) (byte : ℕ) (carrier : Bool) → Sound p → Sound (commandByteIf lf cr p byte carrier .processor)
 unfolding ended pushed
-kept-command true cr p byte carrier s = s
+kept-command true cr p byte carrier s = omega arith
 kept-command false true p byte carrier s = kept-ended (eqb (lineOf p .len) 0) p carrier s
-kept-command false false p byte carrier s = record { line = kept-pushed p byte (ltb (lineOf p .len) 80) refl (s .line); held = s .held; down = s .down }
+kept-command false false p byte carrier s = kept-pushed (ltb (lineOf p .len) 80) p byte refl s
 
-kept-data : (p : AtProcessor) (byte : ℕ) (w room : Bool) → withheld p byte ≡ w → Sound p → Sound (dataByteIf w room p .processor)
-kept-data p byte true room e s = record { line = s .line; held = omega (arith, withheld-few p byte e); down = s .down }
-kept-data p byte false true e s = record { line = s .line; held = zero-le; down = s .down }
-kept-data p byte false false e s = s
+kept-data : (w room : Bool) (p : AtProcessor) (byte : ℕ) → withheld p byte ≡ w → Sound p → Sound (dataByteIf w room p .processor)
+kept-data true room p byte e s = omega (arith, withheld-few p byte e)
+kept-data false true p byte e s = omega arith
+kept-data false false p byte e s = omega arith
 
 kept-typed : (mode : Bool) (p : AtProcessor) (byte : ℕ) (carrier : Bool) (room : ℕ) → Sound p → Sound (typedByteIf mode p byte carrier room .processor)
 unfolding commandByte dataByte
-kept-typed true p byte carrier room s = kept-command (eqb byte 10) (eqb byte 13) p byte carrier s
-kept-typed false p byte carrier room s = kept-data p byte (withheld p byte) (ltb (pluses p) room) refl s
+kept-typed true p byte carrier room s = kept-command (eqb byte (code "\n")) (eqb byte (code "\r")) p byte carrier s
+kept-typed false p byte carrier room s = kept-data (withheld p byte) (ltb (pluses p) room) p byte refl s
 
 pub sound-typed : (p : AtProcessor) (byte : ℕ) (carrier : Bool) (room : ℕ) → sound p ≡ true → sound (typedByte p byte carrier room .processor) ≡ true
 unfolding typedByte
@@ -78,28 +79,28 @@ sound-typed p byte carrier room e = whole _ (kept-typed (commandMode p) p byte c
 -- and so do a lapse and forced data mode
 
 kept-escaped : (t : Bool) (p : AtProcessor) → Sound p → Sound (escapedIf t p)
-kept-escaped true p s = record { line = s .line; held = zero-le; down = s .down }
-kept-escaped false p s = s
+kept-escaped true p s = omega arith
+kept-escaped false p s = omega arith
 
 kept-waited : (mode : Bool) (p : AtProcessor) (ns : ℕ) → Sound p → Sound (waitedIf mode p ns)
 unfolding escaped
-kept-waited true p ns s = s
+kept-waited true p ns s = omega arith
 kept-waited false p ns s =
     let idle = added (p .idle) ns in
-    kept-escaped (eqb (pluses p) 3 && leb guardTime idle) (withEscape (pluses p) idle p) (record { line = s .line; held = s .held; down = s .down })
+    kept-escaped (eqb (pluses p) 3 && leb guardTime idle) (withEscape (pluses p) idle p) (omega arith)
 
-kept-down : (p : AtProcessor) (down : ℕ) (t : Bool) → leb holdTime down ≡ t → Sound p → Sound (downIf t p down .processor)
-kept-down p down true e s = record { line = s .line; held = zero-le; down = lit< tt }
-kept-down p down false e s = record { line = s .line; held = s .held; down = leb-false holdTime down e }
+kept-down : (t : Bool) (p : AtProcessor) (down : ℕ) → leb holdTime down ≡ t → Sound p → Sound (downIf t p down .processor)
+kept-down true p down e s = omega arith
+kept-down false p down e s = omega (arith, leb-false holdTime down e)
 
 kept-polled : (carrier mark : Bool) (p : AtProcessor) (ns : ℕ) → Sound p → Sound (polledIf carrier mark p ns .processor)
 unfolding downFor
-kept-polled true true p ns s = record { line = s .line; held = s .held; down = lit< tt }
-kept-polled true false p ns s = record { line = s .line; held = s .held; down = lit< tt }
+kept-polled true true p ns s = omega arith
+kept-polled true false p ns s = omega arith
 kept-polled false true p ns s =
     let down = added (downTime p) ns in
-    kept-down p down (leb holdTime down) refl s
-kept-polled false false p ns s = s
+    kept-down (leb holdTime down) p down refl s
+kept-polled false false p ns s = omega arith
 
 pub sound-lapse : (p : AtProcessor) (ns : ℕ) (carrier : Bool) → sound p ≡ true → sound (lapse p ns carrier .processor) ≡ true
 unfolding lapse waited polled
@@ -109,7 +110,7 @@ sound-lapse p ns carrier e =
 
 pub sound-forced : (p : AtProcessor) → sound p ≡ true → sound (forcedData p) ≡ true
 unfolding forcedData
-sound-forced p e = let s = parts p e in whole _ (record { line = s .line; held = zero-le; down = s .down })
+sound-forced p e = let s = parts p e in whole (forcedData p) (omega arith)
 
 pub sound-fresh : sound fresh ≡ true
 unfolding sound

@@ -1,5 +1,6 @@
 -- 01, "The AT processor": a typed byte, a lapse of time, forced data mode.
 use Prim.Native.Nat.{ℕ}
+use Prim.Native.Char.{code}
 use mathlib.Core.List.{List, []}
 use mathlib.Core.Bool.{Bool, true, false, _&&_, not}
 use lib.ListN.{drop}
@@ -31,7 +32,7 @@ commandByteIf false true p byte carrier = ended p carrier
 commandByteIf false false p byte carrier = quiet (withLine (pushed (lineOf p) byte) p)
 
 unfoldable pub commandByte : AtProcessor → ℕ → Bool → Fed
-commandByte p byte carrier = commandByteIf (eqb byte 10) (eqb byte 13) p byte carrier
+commandByte p byte carrier = commandByteIf (eqb byte (code "\n")) (eqb byte (code "\r")) p byte carrier
 
 -- a typed byte, by the mode, with an outbox of `room` bytes
 abbrev pub typedByteIf : Bool → AtProcessor → ℕ → Bool → ℕ → Fed
@@ -63,4 +64,4 @@ forcedData p = online p
 
 -- declined with 4: command mode, line 80 long, byte not CR or LF
 unfoldable pub lineFull : AtProcessor → ℕ → Bool
-lineFull p byte = commandMode p && (eqb (lineOf p .len) 80 && (not (eqb byte 13) && not (eqb byte 10)))
+lineFull p byte = commandMode p && (eqb (lineOf p .len) 80 && (not (eqb byte (code "\r")) && not (eqb byte (code "\n"))))

@@ -1,5 +1,6 @@
 -- 01, "The AT processor": data mode, the bytes that it sends and its escape.
 use Prim.Native.Nat.{ℕ, _+_}
+use Prim.Native.Char.{code}
 use mathlib.Core.List.{List, [], _∷_, _++_}
 use mathlib.Core.Bool.{Bool, true, false, _&&_, _||_}
 use lib.ListN.{replicate}
@@ -19,14 +20,17 @@ guardTime = 1_000_000_000
 -- a plus is withheld if none is held and idle >= 1 s, or one or two are and idle <= 1 s
 unfoldable pub withheld : AtProcessor → ℕ → Bool
 withheld p byte =
-    eqb byte 43
+    eqb byte (code "+")
     && ((eqb (pluses p) 0 && leb guardTime (p .idle))
     || ((eqb (pluses p) 1 || eqb (pluses p) 2) && leb (p .idle) guardTime))
 
 -- any other byte sends the held pluses, then itself
+abbrev pub plusesThen : ℕ → ℕ → List ℕ
+plusesThen held byte = replicate held (code "+") ++ (byte ∷ [])
+
 abbrev pub releasedIf : Bool → AtProcessor → ℕ → List ℕ
 releasedIf true p byte = []
-releasedIf false p byte = replicate (pluses p) 43 ++ (byte ∷ [])
+releasedIf false p byte = plusesThen (pluses p) byte
 
 unfoldable pub released : AtProcessor → ℕ → List ℕ
 released p byte = releasedIf (withheld p byte) p byte

@@ -1,27 +1,29 @@
-// The Hayes AT command interface, at.rs: command lines, data mode's escape, and the carrier.
-// What a call control has to do comes back as a `Control`, for the caller to do.
+// The AT command interface, a port of at.rs: command lines, data mode's escape, the carrier.
+// The processor goes in by value and comes back in the answer. It holds no session: what the call
+// control has to do is part of the answer, and the caller does it.
 use command::Command;
 use command::Line;
 use reply::Code;
 use reply::Reply;
 ghost use mathlib.Core.Path.{_≡_};
-ghost use mathlib.Core.List.{[], _∷_, _++_};
+ghost use mathlib.Core.List.{_++_};
 ghost use Prim.Native.Nat.{_+_, _<_};
-ghost use lib.ListN.{length, drop, replicate};
-ghost use Rattle.reply.specs.Texts.{put};
+ghost use lib.ListN.{length, drop};
+ghost use Rattle.ascii.specs.Front.{put};
 ghost use Rattle.at.specs.Processor.{fresh, sound, online, unseen, added};
 ghost use Rattle.at.specs.Answer.{outcome, quiet};
 ghost use Rattle.at.specs.Command.{executed};
-ghost use Rattle.at.specs.Escape.{withheld, released, dataByte, escaped, waited};
+ghost use Rattle.at.specs.Escape.{withheld, plusesThen, released, dataByte, escaped, waited};
 ghost use Rattle.at.specs.Carrier.{downFor, polled};
 ghost use Rattle.at.specs.At.{lineFull, ended, commandByte, typedByte, sent, lapse, forcedData};
 
-// The silence on both sides of an escape, and the longest pause inside one.
+// 1 s: the silence before and after an escape, and the longest pause inside one.
 const GUARD_TIME: u64 = 1_000_000_000;
 
-// How long a carrier that was seen may be away.
+// 700 ms: a carrier that is away for so long is lost.
 const DCD_HOLD_TIME: u64 = 700_000_000;
 
+// Time is added up to here and no further.
 const LONGEST: u64 = 0xffff_ffff_ffff_ffff;
 
 // What the call control has to do.
@@ -35,26 +37,26 @@ pub enum Control {
 pub struct AtProcessor {
     pub in_command_mode: bool,
     pub cmd_buf: Line,
-    // Nanoseconds without a byte in data mode.
+    // Nanoseconds since the last byte in data mode.
     pub idle: u64,
-    // Pluses withheld, 0 to 3.
+    // Pluses withheld as the beginning of an escape, 0 to 3.
     pub plus_count: u8,
-    // 01's carrier-seen mark.
+    // 01's mark that the carrier was seen.
     pub carrier_up: bool,
-    // Nanoseconds since a seen carrier went away.
+    // Nanoseconds since a carrier that was seen went away.
     pub carrier_down_for: u64,
 }
 
-// What a command line or a lapse of time gives.
+// The answer to a command line or a lapse of time.
 pub struct Outcome {
     pub processor: AtProcessor,
     pub reply: Reply,
     pub control: Control,
 }
 
-// What a typed byte gives. `sent` bytes stand at the outbox's front. `line` is the line that the
-// byte ended, uppercased, and empty where it ended none: a dial's digits are its bytes from the
-// fifth on, beside `control` because an enum holds no array.
+// The answer to a typed byte. `sent` counts the bytes put at the outbox's front. `line` is the line
+// that the byte ended, uppercased, or an empty one: an enum holds no array, so what a dial line has
+// after ATDT comes beside `control`.
 pub struct Fed {
     pub processor: AtProcessor,
     pub reply: Reply,
@@ -74,7 +76,7 @@ fn saturating_add(a: u64, b: u64) -> u64
 }
 
 impl AtProcessor {
-    // A modem that has just been switched on.
+    // A modem just switched on.
     pub fn new() -> Self
         ensures { λ r. ⌜ r ≡ fresh ⌝ }
     {
@@ -97,7 +99,7 @@ impl AtProcessor {
             & ((self.plus_count <= 3) & (self.carrier_down_for < DCD_HOLD_TIME))
     }
 
-    // Whether 01 declines the byte with 4.
+    // Whether 01 declines the byte with number 4.
     pub fn line_full(self, byte: u8) -> bool
         ensures { λ r. ⌜ r ≡ lineFull self byte ⌝ }
     {
@@ -110,7 +112,8 @@ impl AtProcessor {
         self.go_online()
     }
 
-    // One typed byte. In data mode the bytes sent go to the front of `out`.
+    // One byte typed at the terminal. What it sends goes to the front of `out`. Where that does not
+    // fit, nothing changes; 01 declines so short an outbox beforehand.
     pub fn feed(self, byte: u8, carrier: bool, out: &mut [u8]) -> Fed
         ensures { λ r. ⌜ r ≡ typedByte self byte carrier (length (now (out .entry))) ⌝ }
         ensures { λ _. ⌜ now (out .exit) ≡ put (sent self byte) (now (out .entry)) ⌝ }
@@ -121,7 +124,7 @@ impl AtProcessor {
         self.feed_data_byte(byte, out)
     }
 
-    // `ns` nanoseconds pass. Completes an escape, and tells of a carrier that came or went.
+    // `ns` nanoseconds pass: an escape may be complete, the carrier may have come or gone.
     pub fn advance_time(self, ns: u64, carrier: bool) -> Outcome
         ensures { λ r. ⌜ r ≡ lapse self ns carrier ⌝ }
     {
@@ -138,7 +141,7 @@ impl AtProcessor {
         AtProcessor { idle, ..self }.complete_escape()
     }
 
-    // The pluses were the signal and no data, so they are not sent.
+    // The three pluses were the signal and no data: they are not sent.
     fn complete_escape(self) -> Self
         ensures { λ r. ⌜ r ≡ escaped self ⌝ }
     {
@@ -153,8 +156,7 @@ impl AtProcessor {
         self
     }
 
-    // A carrier that comes is told of in data mode alone. One that was seen may be away for less than
-    // the hold time; then the call is over.
+    // A carrier that comes is announced in data mode alone.
     fn poll_carrier(self, ns: u64, carrier: bool) -> Outcome
         ensures { λ r. ⌜ r ≡ polled self ns carrier ⌝ }
     {
@@ -179,6 +181,7 @@ impl AtProcessor {
         self.gives(Reply::None, Control::Nothing)
     }
 
+    // A short dropout does not end the call.
     fn carrier_down(self, down: u64) -> Outcome
         ensures { λ r. ⌜ r ≡ downFor self down ⌝ }
     {
@@ -190,7 +193,7 @@ impl AtProcessor {
             };
             return waiting.gives(Reply::None, Control::Nothing);
         }
-        let idle = AtProcessor {
+        let hung_up = AtProcessor {
             in_command_mode: true,
             idle: 0,
             plus_count: 0,
@@ -198,7 +201,7 @@ impl AtProcessor {
             carrier_down_for: 0,
             ..self
         };
-        idle.gives(Reply::One(Code::NoCarrier), Control::Hangup)
+        hung_up.gives(Reply::One(Code::NoCarrier), Control::Hangup)
     }
 
     fn feed_command_byte(self, byte: u8, carrier: bool) -> Fed
@@ -268,6 +271,7 @@ impl AtProcessor {
         }
     }
 
+    // ATO returns to a call that is still there.
     fn resume(self, carrier: bool) -> Outcome
         ensures { λ r. ⌜ r ≡ executed Command.Ato carrier self ⌝ }
     {
@@ -322,7 +326,8 @@ impl AtProcessor {
         }
     }
 
-    // A byte extends an escape or breaks it. The byte that breaks one opens none, a plus neither.
+    // A byte continues an escape or breaks it. The byte that breaks one is sent after the withheld
+    // pluses, and opens no other, even if it is a plus.
     fn feed_data_byte(self, byte: u8, out: &mut [u8]) -> Fed
         ensures { λ r. ⌜ r ≡ dataByte self byte (length (now (out .entry))) ⌝ }
         ensures { λ _. ⌜ now (out .exit) ≡ put (released self byte) (now (out .entry)) ⌝ }
@@ -367,10 +372,10 @@ impl AtProcessor {
     }
 }
 
-// The withheld pluses, then the byte.
+// Puts the withheld pluses, then the byte, at the front of `out`.
 fn send(pluses: usize, byte: u8, out: &mut [u8])
     requires { ⌜ pluses < length (now out) ⌝ }
-    ensures { λ _. ⌜ now (out .exit) ≡ (replicate pluses 43 ++ (byte ∷ [])) ++ drop (pluses + 1) (now (out .entry)) ⌝ }
+    ensures { λ _. ⌜ now (out .exit) ≡ plusesThen pluses byte ++ drop (pluses + 1) (now (out .entry)) ⌝ }
 {
     let mut i = 0;
     while i < pluses {

@@ -7,8 +7,9 @@ use mathlib.Core.List.{List}
 use mathlib.Core.Bool.{Bool, true, false, _||_}
 use lib.ListN.{length, take, drop}
 use lib.Seq.{take-add, drop-at, length-take-le}
+use Rattle.ascii.specs.Ascii.{ascii}
 use Rattle.command.specs.declared.Command.the-variants.{At, Atz, Ati, Ata, Ath, Ato, Atdt, Unknown}
-use Rattle.command.specs.Command.{begins, is, AT, ATZ, ATI, ATA, ATH, ATH0, ATO, ATO0, ATDT, read, commandOf}
+use Rattle.command.specs.Command.{begins, is, read, commandOf}
 use Rattle.command.proofs.Begins.{begins-long}
 
 last-row : (t1 t2 t3 t4 t5 t6 t7 : Bool) → read t1 At (read t2 Atz (read t3 Ati (read t4 Ata (read t5 Ath (read t6 Ato (read t7 Atdt Unknown)))))) ≡ Atdt → t7 ≡ true
@@ -24,8 +25,8 @@ last-row false false false false false false false e = cc
 pub dial-long : (line : List ℕ) → commandOf line ≡ Atdt → 4 ≤ length line
 unfolding commandOf
 dial-long line e =
-    begins-long ATDT line
-    (last-row (is AT line) (is ATZ line) (is ATI line) (is ATA line) (is ATH line || is ATH0 line) (is ATO line || is ATO0 line) (begins ATDT line) e)
+    begins-long (ascii "ATDT") line
+    (last-row (is (ascii "AT") line) (is (ascii "ATZ") line) (is (ascii "ATI") line) (is (ascii "ATA") line) (is (ascii "ATH") line || is (ascii "ATH0") line) (is (ascii "ATO") line || is (ascii "ATO0") line) (begins (ascii "ATDT") line) e)
 
 part : (bytes : List ℕ) (k : ℕ) → 4 ≤ length bytes → drop 4 (take (4 + k) bytes) ≡ take k (drop 4 bytes)
 part bytes k l = rw (take-add 4 k bytes) (drop-at (take 4 bytes) _ 4 (length-take-le 4 bytes l))

@@ -1,5 +1,6 @@
 -- 01, "The AT processor": the command line. Lines have at most 80 bytes.
 use Prim.Native.Nat.{ℕ, _+_, _-_}
+use Prim.Native.Char.{code}
 use mathlib.Core.List.{List, map}
 use mathlib.Core.Bool.{Bool, true, false, _&&_}
 use lib.ListN.{take, set, replicate}
@@ -27,7 +28,7 @@ upperIf true b = b - 32
 upperIf false b = b
 
 unfoldable pub upper : ℕ → ℕ
-upper b = upperIf (leb 97 b && leb b 122) b
+upper b = upperIf (leb (code "a") b && leb b (code "z")) b
 
 -- the line, uppercased
 unfoldable pub uppercased : Line → Line

@@ -1,4 +1,5 @@
-// The command line: its bytes, the line uppercased, and which command it is.
+// The command line: at.rs's `cmd_buf` as an array with a length, the line uppercased, and the
+// command that it is.
 ghost use mathlib.Core.Path.{_≡_};
 ghost use Prim.Native.Nat.{_≤_, _<_};
 ghost use lib.ListN.{length};
@@ -11,7 +12,7 @@ pub struct Line {
     pub len: usize,
 }
 
-// The kinds of command line.
+// A command for each arm of at.rs's `execute`.
 pub enum Command {
     At,
     Atz,
@@ -45,7 +46,7 @@ impl Line {
         }
     }
 
-    // One byte more. A full line stays as it is: 01 declines that byte before it comes here.
+    // One byte more. A full line takes none; 01 declines that byte beforehand.
     pub fn push(self, byte: u8) -> Self
         ensures { λ r. ⌜ r ≡ pushed self byte ⌝ }
     {

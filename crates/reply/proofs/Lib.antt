@@ -1,2 +1,2 @@
-pub mod Front
+-- Laws on texts.
 pub mod Other

@@ -3,7 +3,8 @@
 ghost use mathlib.Core.Path.{_≡_};
 ghost use lib.ListN.{length};
 ghost use Rattle.reply.specs.Codes.{numberOf, firstOf, secondOf};
-ghost use Rattle.reply.specs.Texts.{textOf, put, putLength};
+ghost use Rattle.ascii.specs.Front.{put, putLength};
+ghost use Rattle.reply.specs.Texts.{textOf};
 
 pub enum Code {
     Ok,
@@ -65,27 +66,11 @@ pub fn write_reply(code: u8, out: &mut [u8]) -> usize
     ensures { λ _. ⌜ now (out .exit) ≡ put (textOf code) (now (out .entry)) ⌝ }
 {
     match code {
-        1 => put_front(b"OK", out),
-        2 => put_front(b"CONNECT 300", out),
-        3 => put_front(b"NO CARRIER", out),
-        4 => put_front(b"ERROR", out),
-        5 => put_front(b"modem-core Bell 103 v1.0.0", out),
+        1 => ascii::put_front(b"OK", out),
+        2 => ascii::put_front(b"CONNECT 300", out),
+        3 => ascii::put_front(b"NO CARRIER", out),
+        4 => ascii::put_front(b"ERROR", out),
+        5 => ascii::put_front(b"modem-core Bell 103 v1.0.0", out),
         _ => 0,
     }
-}
-
-// Copies `text` to the front of `out` where it fits whole.
-fn put_front(text: &[u8], out: &mut [u8]) -> usize
-    ensures { λ r. ⌜ r ≡ putLength (now (text .entry)) (length (now (out .entry))) ⌝ }
-    ensures { λ _. ⌜ now (out .exit) ≡ put (now (text .entry)) (now (out .entry)) ⌝ }
-{
-    if out.len() < text.len() {
-        return 0;
-    }
-    let mut i = 0;
-    while i < text.len() {
-        out[i] = text[i];
-        i += 1;
-    }
-    i
 }

@@ -1,6 +1,7 @@
 -- `at::send` meets its contract: the pluses fill the front, one a turn, and the byte stands after them.
 -- Assumes nothing.
 use Prim.Native.Nat.{_≤_, _<_, _-_}
+use Prim.Native.Char.{code}
 use native.Mathlib.Omega.{arith}
 use mathlib.Core.Path.{_≡_, refl}
 use mathlib.Core.List.{_++_}
@@ -11,7 +12,7 @@ use Rattle.at.proofs.send.Statement.{statement}
 use Rattle.at.proofs.send.Tie as tie
 
 abbrev Inv-loop : tie.InvT-loop
-Inv-loop pluses byte out₀ i₀ out i = (i ≤ pluses) × (length out ≡ length out₀) × (out ≡ replicate i 43 ++ drop i out₀)
+Inv-loop pluses byte out₀ i₀ out i = (i ≤ pluses) × (length out ≡ length out₀) × (out ≡ replicate i (code "+") ++ drop i out₀)
 
 abbrev μ-loop : tie.MeasureT-loop
 μ-loop pluses byte out₀ i₀ out i = pluses - i
@@ -33,7 +34,7 @@ loop-again c =
     let l = c .before .loop in
     let was = c .before .before .args .out .now in
     let below : l .i < length was = omega arith in
-    (omega arith, simp length-set (l .inv .1), rw (l .inv .2) (fill-more (l .i) 43 was below))
+    (omega arith, simp length-set (l .inv .1), rw (l .inv .2) (fill-more (l .i) (code "+") was below))
 
 slice-write-out-2 : tie.Need-slice-write-out-2 Inv-loop μ-loop
 slice-write-out-2 c = omega arith
@@ -44,7 +45,7 @@ same-length c = simp length-set (c .before .loop .inv .1)
 returns : tie.Need-returns Inv-loop μ-loop
 returns c =
     let e : c .before .loop .i ≡ c .before .before .args .pluses = omega arith in
-    rw (c .before .loop .inv .2, e) (closed _ _ _ _ (c .before .before .pre))
+    rw (c .before .loop .inv .2, e) (closed _ _ _ (c .before .before .pre))
 
 pub send-spec : {M : Type 1} → statement M
 send-spec =

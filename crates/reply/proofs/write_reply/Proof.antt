@@ -3,7 +3,8 @@
 use borrow.Author.Needs.{needs}
 use borrow.Author.Tests.{le-leb}
 use Prim.Native.Nat.{zero-le}
-use Rattle.reply.specs.Texts.{textOf, put, putLength}
+use Rattle.ascii.specs.Front.{put, putLength}
+use Rattle.reply.specs.Texts.{textOf}
 use Rattle.reply.proofs.Other.{other}
 use Rattle.reply.proofs.write_reply.Statement.{statement}
 use Rattle.reply.proofs.write_reply.Tie as tie

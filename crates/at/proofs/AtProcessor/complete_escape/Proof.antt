@@ -1,11 +1,18 @@
 -- `AtProcessor::complete_escape` meets its contract: the test is the definition's. Assumes nothing.
-use Rattle.at.specs.Escape.{escaped}
+use mathlib.Core.Path.{_≡_}
+use mathlib.Core.Bool.{true, _&&_}
+use lib.Dec.{leb, eqb}
+use Rattle.at.specs.Processor.{pluses}
+use Rattle.at.specs.Escape.{guardTime, escaped}
 use Rattle.at.proofs.AtProcessor.complete_escape.Statement.{statement}
 use Rattle.at.proofs.AtProcessor.complete_escape.Tie as tie
 
 returns : tie.Need-returns
 unfolding escaped
-returns c = rw (c .before .if1 .taken)
+returns c =
+    let p = c .before .before .before .before .args .self in
+    let done : (eqb (pluses p) 3 && leb guardTime (p .idle)) ≡ true = c .before .if1 .taken in
+    rw done
 
 returns-2 : tie.Need-returns-2
 unfolding escaped

@@ -1,7 +1,7 @@
 -- `AtProcessor::feed` meets its contract, by the mode. In command mode nothing is sent. Assumes nothing.
 use borrow.Author.Needs.{needs}
 use mathlib.Core.Path.{sym, _∙_}
-use Rattle.reply.proofs.Front.{put-none}
+use Rattle.ascii.proofs.Front.{put-none}
 use Rattle.at.specs.At.{typedByte, sent}
 use Rattle.at.proofs.AtProcessor.feed.Statement.{statement}
 use Rattle.at.proofs.AtProcessor.feed.Tie as tie

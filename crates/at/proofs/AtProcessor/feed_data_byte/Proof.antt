@@ -1,8 +1,11 @@
 -- `AtProcessor::feed_data_byte` meets its contract, by the escape's rule and the outbox's room. Assumes nothing.
 use borrow.Author.Needs.{needs}
+use Prim.Native.Nat.{_≤_, _<_}
 use native.Mathlib.Omega.{arith}
+use lib.ListN.{length}
 use mathlib.Core.Path.{sym, _∙_}
 use borrow.Author.Tests.{le-ltb, lt-ltb}
+use Rattle.at.specs.Processor.{pluses}
 use Rattle.at.specs.Escape.{dataByte}
 use Rattle.at.proofs.Few.{withheld-few}
 use Rattle.at.proofs.Outbox.{outbox-withheld, outbox-sent, outbox-short}
@@ -35,8 +38,10 @@ silent-requires-2 c κs = search needs
 returns-2 : tie.Need-returns-2
 unfolding dataByte
 returns-2 c =
+    let a = c .before .before .before .before .before .args in
     let w = sym (c .before .before .before .continues-run .ensures) ∙ c .before .before .if1 .left in
-    (c .silent2 .ensures ∙ rw (w, le-ltb _ _ (c .before .if2 .taken)), sym (outbox-short _ _ _ w (c .before .if2 .taken)))
+    let full : length (a .out .now) ≤ pluses (a .self) = omega arith in
+    (c .silent2 .ensures ∙ rw (w, le-ltb _ _ full), sym (outbox-short _ _ _ w full))
 
 send-requires : tie.Need-send-requires
 send-requires c κs = search needs
@@ -53,8 +58,11 @@ same-length c = search needs
 returns-3 : tie.Need-returns-3
 unfolding dataByte
 returns-3 c =
-    let w = sym (c .before .before .before .before .before .before .before .before .continues-run .ensures) ∙ c .before .before .before .before .before .before .before .if1 .left in
-    (rw (c .new .ensures, w, lt-ltb _ _ (c .before .before .before .before .before .before .if2 .left)), c .before .before .before .before .send .ensures ∙ sym (outbox-sent _ _ _ w (c .before .before .before .before .before .before .if2 .left)))
+    let d = c .before .before .before .before in
+    let a = d .before .before .before .before .before .before .args in
+    let w = sym (d .before .before .before .before .continues-run .ensures) ∙ d .before .before .before .if1 .left in
+    let room : pluses (a .self) < length (a .out .now) = omega arith in
+    (rw (c .new .ensures, w, lt-ltb _ _ room), d .send .ensures ∙ sym (outbox-sent _ _ _ w room))
 
 pub feed-data-byte-spec : {M : Type 1} → statement M
 feed-data-byte-spec =

@@ -1,9 +1,18 @@
--- `command::Line::command` meets its contract: each answer rewrites the definition's tests, in their order, by the calls that led to it.
+-- `command::Line::command` meets its contract: each answer rewrites the definition's tests, in their order, by what the calls before it told.
 -- Assumes nothing.
 use borrow.Author.Needs.{needs}
+use mathlib.Core.Path.{_≡_, sym, _∙_}
+use mathlib.Core.Bool.{Bool, _||_}
 use Rattle.command.specs.Command.{commandOf}
 use Rattle.command.proofs.Line.command.Statement.{statement}
 use Rattle.command.proofs.Line.command.Tie as tie
+
+-- a call's result is the definition's test, and a branch knows its value; the same of two calls joined
+told : {r test b : Bool} → r ≡ test → r ≡ b → test ≡ b
+told e t = sym e ∙ t
+
+either : {r test r′ test′ b : Bool} → r ≡ test → r′ ≡ test′ → (r || r′) ≡ b → (test || test′) ≡ b
+either e e′ t = rw (← e, ← e′) t
 
 slice-aggregate-equals : tie.Need-slice-aggregate-equals
 slice-aggregate-equals c = search needs
@@ -13,7 +22,7 @@ equals-requires c κs = search needs
 
 returns : tie.Need-returns
 unfolding commandOf
-returns c = rw (← c .before .equals .ensures, c .if1 .taken)
+returns c = rw (told (c .before .equals .ensures) (c .if1 .taken))
 
 slice-aggregate-equals-2 : tie.Need-slice-aggregate-equals-2
 slice-aggregate-equals-2 c = search needs
@@ -25,7 +34,10 @@ returns-2 : tie.Need-returns-2
 unfolding commandOf
 returns-2 c =
     let e1 = c .before .before .before in
-    rw (← e1 .before .equals .ensures, e1 .if1 .left, ← c .before .equals2 .ensures, c .if2 .taken)
+    rw (
+      told (e1 .before .equals .ensures) (e1 .if1 .left),
+      told (c .before .equals2 .ensures) (c .if2 .taken),
+    )
 
 slice-aggregate-equals-3 : tie.Need-slice-aggregate-equals-3
 slice-aggregate-equals-3 c = search needs
@@ -38,7 +50,11 @@ unfolding commandOf
 returns-3 c =
     let e2 = c .before .before .before in
     let e1 = e2 .before .before .before in
-    rw (← e1 .before .equals .ensures, e1 .if1 .left, ← e2 .before .equals2 .ensures, e2 .if2 .left, ← c .before .equals3 .ensures, c .if3 .taken)
+    rw (
+      told (e1 .before .equals .ensures) (e1 .if1 .left),
+      told (e2 .before .equals2 .ensures) (e2 .if2 .left),
+      told (c .before .equals3 .ensures) (c .if3 .taken),
+    )
 
 slice-aggregate-equals-4 : tie.Need-slice-aggregate-equals-4
 slice-aggregate-equals-4 c = search needs
@@ -52,7 +68,12 @@ returns-4 c =
     let e3 = c .before .before .before in
     let e2 = e3 .before .before .before in
     let e1 = e2 .before .before .before in
-    rw (← e1 .before .equals .ensures, e1 .if1 .left, ← e2 .before .equals2 .ensures, e2 .if2 .left, ← e3 .before .equals3 .ensures, e3 .if3 .left, ← c .before .equals4 .ensures, c .if4 .taken)
+    rw (
+      told (e1 .before .equals .ensures) (e1 .if1 .left),
+      told (e2 .before .equals2 .ensures) (e2 .if2 .left),
+      told (e3 .before .equals3 .ensures) (e3 .if3 .left),
+      told (c .before .equals4 .ensures) (c .if4 .taken),
+    )
 
 slice-aggregate-equals-5 : tie.Need-slice-aggregate-equals-5
 slice-aggregate-equals-5 c = search needs
@@ -73,7 +94,13 @@ returns-5 c =
     let e3 = e4 .before .before .before in
     let e2 = e3 .before .before .before in
     let e1 = e2 .before .before .before in
-    rw (← e1 .before .equals .ensures, e1 .if1 .left, ← e2 .before .equals2 .ensures, e2 .if2 .left, ← e3 .before .equals3 .ensures, e3 .if3 .left, ← e4 .before .equals4 .ensures, e4 .if4 .left, ← c .before .before .before .equals5 .ensures, ← c .before .equals6 .ensures, c .if5 .taken)
+    rw (
+      told (e1 .before .equals .ensures) (e1 .if1 .left),
+      told (e2 .before .equals2 .ensures) (e2 .if2 .left),
+      told (e3 .before .equals3 .ensures) (e3 .if3 .left),
+      told (e4 .before .equals4 .ensures) (e4 .if4 .left),
+      either (c .before .before .before .equals5 .ensures) (c .before .equals6 .ensures) (c .if5 .taken),
+    )
 
 slice-aggregate-equals-7 : tie.Need-slice-aggregate-equals-7
 slice-aggregate-equals-7 c = search needs
@@ -95,7 +122,14 @@ returns-6 c =
     let e3 = e4 .before .before .before in
     let e2 = e3 .before .before .before in
     let e1 = e2 .before .before .before in
-    rw (← e1 .before .equals .ensures, e1 .if1 .left, ← e2 .before .equals2 .ensures, e2 .if2 .left, ← e3 .before .equals3 .ensures, e3 .if3 .left, ← e4 .before .equals4 .ensures, e4 .if4 .left, ← e5 .before .before .before .equals5 .ensures, ← e5 .before .equals6 .ensures, e5 .if5 .left, ← c .before .before .before .equals7 .ensures, ← c .before .equals8 .ensures, c .if6 .taken)
+    rw (
+      told (e1 .before .equals .ensures) (e1 .if1 .left),
+      told (e2 .before .equals2 .ensures) (e2 .if2 .left),
+      told (e3 .before .equals3 .ensures) (e3 .if3 .left),
+      told (e4 .before .equals4 .ensures) (e4 .if4 .left),
+      either (e5 .before .before .before .equals5 .ensures) (e5 .before .equals6 .ensures) (e5 .if5 .left),
+      either (c .before .before .before .equals7 .ensures) (c .before .equals8 .ensures) (c .if6 .taken),
+    )
 
 slice-aggregate-starts-with : tie.Need-slice-aggregate-starts-with
 slice-aggregate-starts-with c = search needs
@@ -112,7 +146,15 @@ returns-7 c =
     let e3 = e4 .before .before .before in
     let e2 = e3 .before .before .before in
     let e1 = e2 .before .before .before in
-    rw (← e1 .before .equals .ensures, e1 .if1 .left, ← e2 .before .equals2 .ensures, e2 .if2 .left, ← e3 .before .equals3 .ensures, e3 .if3 .left, ← e4 .before .equals4 .ensures, e4 .if4 .left, ← e5 .before .before .before .equals5 .ensures, ← e5 .before .equals6 .ensures, e5 .if5 .left, ← e6 .before .before .before .equals7 .ensures, ← e6 .before .equals8 .ensures, e6 .if6 .left, ← c .before .starts-with .ensures, c .if7 .taken)
+    rw (
+      told (e1 .before .equals .ensures) (e1 .if1 .left),
+      told (e2 .before .equals2 .ensures) (e2 .if2 .left),
+      told (e3 .before .equals3 .ensures) (e3 .if3 .left),
+      told (e4 .before .equals4 .ensures) (e4 .if4 .left),
+      either (e5 .before .before .before .equals5 .ensures) (e5 .before .equals6 .ensures) (e5 .if5 .left),
+      either (e6 .before .before .before .equals7 .ensures) (e6 .before .equals8 .ensures) (e6 .if6 .left),
+      told (c .before .starts-with .ensures) (c .if7 .taken),
+    )
 
 returns-8 : tie.Need-returns-8
 unfolding commandOf
@@ -123,7 +165,15 @@ returns-8 c =
     let e3 = e4 .before .before .before in
     let e2 = e3 .before .before .before in
     let e1 = e2 .before .before .before in
-    rw (← e1 .before .equals .ensures, e1 .if1 .left, ← e2 .before .equals2 .ensures, e2 .if2 .left, ← e3 .before .equals3 .ensures, e3 .if3 .left, ← e4 .before .equals4 .ensures, e4 .if4 .left, ← e5 .before .before .before .equals5 .ensures, ← e5 .before .equals6 .ensures, e5 .if5 .left, ← e6 .before .before .before .equals7 .ensures, ← e6 .before .equals8 .ensures, e6 .if6 .left, ← c .before .starts-with .ensures, c .if7 .left)
+    rw (
+      told (e1 .before .equals .ensures) (e1 .if1 .left),
+      told (e2 .before .equals2 .ensures) (e2 .if2 .left),
+      told (e3 .before .equals3 .ensures) (e3 .if3 .left),
+      told (e4 .before .equals4 .ensures) (e4 .if4 .left),
+      either (e5 .before .before .before .equals5 .ensures) (e5 .before .equals6 .ensures) (e5 .if5 .left),
+      either (e6 .before .before .before .equals7 .ensures) (e6 .before .equals8 .ensures) (e6 .if6 .left),
+      told (c .before .starts-with .ensures) (c .if7 .left),
+    )
 
 pub command-spec : {M : Type 1} → statement M
 command-spec =

@@ -1,4 +1,4 @@
--- `reply::put_front` meets its contract: a text that fits stands at the buffer's front, and the rest is as it was.
+-- `ascii::put_front` meets its contract: a text that fits stands at the buffer's front, and the rest is as it was.
 -- The invariant says so of the bytes copied. Assumes nothing.
 use Prim.Native.Nat.{_≤_, _-_}
 use mathlib.Core.Path.{_≡_, refl}
@@ -7,10 +7,10 @@ use lib.ListN.{length, take, drop}
 use native.Mathlib.Omega.{arith}
 use borrow.Author.Needs.{needs}
 use borrow.Author.Tests.{lt-leb, le-leb}
-use Rattle.reply.specs.Texts.{put, putLength}
-use Rattle.reply.proofs.Front.{copied, length-copied, copied-all}
-use Rattle.reply.proofs.put_front.Statement.{statement}
-use Rattle.reply.proofs.put_front.Tie as tie
+use Rattle.ascii.specs.Front.{put, putLength}
+use Rattle.ascii.proofs.Front.{copied, length-copied, copied-all}
+use Rattle.ascii.proofs.put_front.Statement.{statement}
+use Rattle.ascii.proofs.put_front.Tie as tie
 
 abbrev Inv-loop : tie.InvT-loop
 Inv-loop text out₀ i₀ out i = (i ≤ length text) × (out ≡ take i text ++ drop i out₀)
@@ -20,7 +20,10 @@ abbrev μ-loop : tie.MeasureT-loop
 
 returns : tie.Need-returns Inv-loop μ-loop
 unfolding put putLength
-returns c = (rw (lt-leb _ _ (c .if1 .taken)), rw (lt-leb _ _ (c .if1 .taken)))
+returns c =
+    let a = c .before .args in
+    let short = lt-leb (length (a .text .now)) (length (a .out .now)) (omega arith) in
+    (rw short, rw short)
 
 loop-holds : tie.Need-loop-holds Inv-loop μ-loop
 loop-holds c = (omega arith, refl)

@@ -8,7 +8,7 @@ use mathlib.Core.List.{List, [], _++_, append-assoc}
 use lib.ListN.{length, take, drop, set, getD, length-append, length-take, length-drop}
 use lib.Seq.{take-suc, drop-cons, set-at, length-take-le, take-length}
 use borrow.Author.Tests.{le-leb, lt-leb}
-use Rattle.reply.specs.Texts.{put}
+use Rattle.ascii.specs.Front.{put}
 
 module _ (text buffer : List ℕ) (fits : length text ≤ length buffer) where
   pub copied : (i : ℕ) → i < length text → set (take i text ++ drop i buffer) i (getD text i 0) ≡ take (i + 1) text ++ drop (i + 1) buffer

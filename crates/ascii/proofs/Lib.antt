@@ -1,0 +1,2 @@
+-- Laws on buffers.
+pub mod Front
