@@ -1,4 +1,3 @@
 -- What the functions' proofs cite.
-pub mod Tests
 pub mod Held
 pub mod Parsed

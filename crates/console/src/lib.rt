@@ -1,3 +1,3 @@
-// What the programs read and print: the lines of their input, one byte at a time, and the text of
-// their answers, composed in a buffer.
+// What the programs read: their input in pieces, and its lines, one byte at a time.
 pub mod lines;
+pub mod stream;

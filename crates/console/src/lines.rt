@@ -203,7 +203,10 @@ fn grown(number: u64, digit: u8) -> u64
 fn overflows(number: u64, digit: u8) -> bool
     ensures { λ r. ⌜ r ≡ ltb largest (number * 10 + digit) ⌝ }
 {
-    (u64::MAX - digit as u64) / 10 < number
+    if number <= (u64::MAX - digit as u64) / 10 {
+        return false;
+    }
+    true
 }
 
 // A letter and nothing else.

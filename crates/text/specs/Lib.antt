@@ -1,0 +1,4 @@
+-- Definitions that the contracts cite.
+pub mod Text
+pub mod Digits
+pub mod Seconds
