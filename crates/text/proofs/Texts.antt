@@ -1,15 +1,15 @@
 -- Texts written at a place of a buffer, front to back or back to front, and the digits of a number. Assumes nothing.
 use Prim.Native.Nat.{ℕ, zero, suc, _+_, _-_, _*_, _/_, _%_, _^_, _<_, _≤_}
 use mathlib.Core.Bool.{Bool, true, false}
-use mathlib.Core.List.{List, [], _∷_, _++_, append-assoc}
+use mathlib.Core.List.{List, [], _∷_, _++_, append-assoc, append-nil}
 use mathlib.Core.Path.{_≡_, refl, ap, sym, _∙_}
 use native.Mathlib.Nat.{add-zero, add-suc, pow-suc}
 use native.Mathlib.Numerals.{add-one}
 use native.Mathlib.Omega.{arith}
-use borrow.Author.Tests.{le-leb, lt-leb, lt-ltb, le-ltb, ltb-true, ltb-false}
+use borrow.Author.Tests.{leb-true, le-leb, lt-leb, lt-ltb, le-ltb, ltb-true, ltb-false}
 use lib.Dec.{leb, ltb}
-use lib.ListN.{length, take, drop, set, getD, take-append-drop, length-append, length-set}
-use lib.Seq.{paste, paste-zero, paste-suc, length-paste, take-length, take-set-le, set-split, drop-at, length-take-le}
+use lib.ListN.{length, take, drop, set, getD, take-append-drop, length-append, length-take, length-drop, length-set}
+use lib.Seq.{paste, paste-zero, paste-suc, length-paste, take-length, take-set-le, set-split, take-at, drop-at, drop-drop, length-take-le}
 use Rattle.text.specs.Text.{Page, pageOf, addOf, addIf}
 use Rattle.text.specs.Digits.{glyphOf, lastDigits, decimalFrom, decimalIf, decimalOf, placesOf}
 
@@ -34,6 +34,20 @@ digits-whole out at base k n h =
 
 pub digits-none : (out : List ℕ) (at base k n : ℕ) → length out < at + k → addOf (pageOf out at) (lastDigits base k n) ≡ pageOf out at
 digits-none out at base k n h = let e = digits-long base k n in add-none out at (lastDigits base k n) (omega arith)
+
+pub add-nothing : (out : List ℕ) (at : ℕ) → at ≤ length out → addOf (pageOf out at) [] ≡ pageOf out at
+add-nothing out at h = add-whole out at [] (omega arith) ∙ rw (add-zero, append-nil, take-append-drop)
+
+add-if-long : (t : Bool) (p : Page) (text : List ℕ) → leb (p .place + length text) (length (p .bytes)) ≡ t → length (addIf t p text .bytes) ≡ length (p .bytes)
+unfolding addIf
+add-if-long true p text e =
+    let h : p .place + length text ≤ length (p .bytes) = leb-true _ _ e in
+    simp (length-append, length-take, length-drop) (omega arith)
+add-if-long false p text e = refl
+
+pub add-long : (p : Page) (text : List ℕ) → length (addOf p text .bytes) ≡ length (p .bytes)
+unfolding addOf
+add-long p text = add-if-long (leb (p .place + length text) (length (p .bytes))) p text refl
 
 -- ---- front to back: the first i bytes of the text stand at their place
 pub record Copied (was : List ℕ) (at : ℕ) (text out : List ℕ) (i : ℕ) : Type 0 where
@@ -141,3 +155,19 @@ count-next n c rest (suc j) h t s e =
 
 pub count-more : {n c rest : ℕ} → 10 ≤ rest → Counted n c rest → Counted n (c + 1) (rest / 10)
 count-more {n} {c} {rest} h k = count-next n c rest (k .left) h (k .turns) (k .small) (k .count)
+
+-- ---- two texts in a row are one, where both fit
+pub add-join : (out : List ℕ) (at : ℕ) (s t : List ℕ) → at + (length s + length t) ≤ length out → addOf (addOf (pageOf out at) s) t ≡ addOf (pageOf out at) (s ++ t)
+add-join out at s t h =
+    let head : List ℕ = take at out ++ s in
+    let rest : List ℕ = drop (at + length s) out in
+    let long : length head ≡ at + length s = simp (length-append, length-take) (omega arith) in
+    let whole : length (head ++ rest) ≡ length out = simp (length-append, length-take, length-drop) (omega arith) in
+    let back : drop (at + length s + length t) (head ++ rest) ≡ drop (at + length s + length t) out =
+    sym (drop-drop (length t) (at + length s) (head ++ rest))
+    ∙ (ap (drop (length t)) (drop-at head rest (at + length s) long) ∙ drop-drop (length t) (at + length s) out) in
+    let both : at + length (s ++ t) ≡ at + length s + length t = simp length-append (omega arith) in
+    ap (λ (p : Page). addOf p t) (add-whole out at s (omega arith))
+    ∙ (add-whole (head ++ rest) (at + length s) t (omega arith)
+    ∙ ((rw (take-at head rest (at + length s) long, back, both, append-assoc (take at out) s t))
+    ∙ sym (add-whole out at (s ++ t) (omega arith))))
