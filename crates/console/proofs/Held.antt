@@ -5,10 +5,10 @@ use mathlib.Core.Bool.{Bool, true, false, _&&_, _||_}
 use mathlib.Core.Path.{_≡_, refl, ap, sym}
 use native.Mathlib.Omega.{arith}
 use borrow.Author.Tests.{ltb-true, ltb-false, lt-ltb, le-ltb, lt-leb}
-use lib.Dec.{leb, ltb, eqb}
+use lib.Dec.{leb, ltb}
 use Rattle.console.specs.declared.lines.Call.the-variants.{Rate, Other}
 use Rattle.console.specs.declared.lines.Parser.{Parser}
-use Rattle.console.specs.Lines.{fillCall, fillIf, typedCall, typedIf, lapseCall, lapseIf, oneCall, twoCall, threeCall}
+use Rattle.console.specs.Lines.{is, fillCall, fillIf, typedCall, typedIf, lapseCall, lapseIf, oneCall, twoCall, threeCall}
 use Rattle.console.specs.Parser.{largest, digitOf, commaOf, commaIf, severalOf, answerOf, answerIf}
 
 abbrev pub capped : ℕ → ℕ
@@ -101,19 +101,19 @@ three-other true n m o h = h
 three-other false n m o h = refl
 
 -- ---- what the parser answers, with one, two or three numbers
-pub answer-one : (x : Bool) (letter w l v : ℕ) (o : Bool) → answerOf (held x letter 1 false w l v o) ≡ oneCall (eqb letter 82) (eqb letter 70) x v
+pub answer-one : (x : Bool) (letter w l v : ℕ) (o : Bool) → answerOf (held x letter 1 false w l v o) ≡ oneCall (is "R" letter) (is "F" letter) x v
 unfolding answerOf answerIf
-answer-one x letter w l v o = one-capped (eqb letter 82) (eqb letter 70) x v
+answer-one x letter w l v o = one-capped (is "R" letter) (is "F" letter) x v
 
-pub answer-two : {n m : ℕ} (x : Bool) (letter w : ℕ) → Size n → Size m → answerOf (held x letter 2 false w (capped n) m (beyond n || false)) ≡ twoCall (eqb letter 84) (eqb letter 87) n m
+pub answer-two : {n m : ℕ} (x : Bool) (letter w : ℕ) → Size n → Size m → answerOf (held x letter 2 false w (capped n) m (beyond n || false)) ≡ twoCall (is "T" letter) (is "W" letter) n m
 unfolding answerOf answerIf severalOf
-answer-two {n} {m} x letter w s (past f h) = rw f (sym (two-second (eqb letter 84) (eqb letter 87) n m h))
-answer-two {n} {m} x letter w (past e h) (within f p) = rw (f, e) (sym (two-first (eqb letter 84) (eqb letter 87) n m h))
+answer-two {n} {m} x letter w s (past f h) = rw f (sym (two-second (is "T" letter) (is "W" letter) n m h))
+answer-two {n} {m} x letter w (past e h) (within f p) = rw (f, e) (sym (two-first (is "T" letter) (is "W" letter) n m h))
 answer-two x letter w (within e q) (within f p) = rw (f, e, q, p)
 
-pub answer-three : {n m v : ℕ} (x : Bool) (letter : ℕ) → Size n → Size m → Size v → answerOf (held x letter 3 false (capped n) (capped m) v (beyond m || (beyond n || false))) ≡ threeCall (x && eqb letter 84) n m v
+pub answer-three : {n m v : ℕ} (x : Bool) (letter : ℕ) → Size n → Size m → Size v → answerOf (held x letter 3 false (capped n) (capped m) v (beyond m || (beyond n || false))) ≡ threeCall (x && is "T" letter) n m v
 unfolding answerOf answerIf severalOf
-answer-three {n} {m} {v} x letter r s (past f h) = rw f (sym (three-other (x && eqb letter 84) n m v (typed-third n m v h)))
-answer-three {n} {m} {v} x letter r (past e h) (within f p) = rw (f, e) (sym (three-other (x && eqb letter 84) n m v (typed-second n m v h)))
-answer-three {n} {m} {v} x letter (past d h) (within e q) (within f p) = rw (f, e, d) (sym (three-other (x && eqb letter 84) n m v (typed-first n m v h)))
+answer-three {n} {m} {v} x letter r s (past f h) = rw f (sym (three-other (x && is "T" letter) n m v (typed-third n m v h)))
+answer-three {n} {m} {v} x letter r (past e h) (within f p) = rw (f, e) (sym (three-other (x && is "T" letter) n m v (typed-second n m v h)))
+answer-three {n} {m} {v} x letter (past d h) (within e q) (within f p) = rw (f, e, d) (sym (three-other (x && is "T" letter) n m v (typed-first n m v h)))
 answer-three x letter (within d s) (within e q) (within f p) = rw (f, e, d, s, q, p)

@@ -1,3 +1,4 @@
 -- What the functions' proofs cite.
 pub mod Held
 pub mod Parsed
+pub mod Examples

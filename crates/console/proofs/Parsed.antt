@@ -1,15 +1,19 @@
 -- What the parser answers at a line's end is the line's call, by its fields (`parsed-call`).
 -- It goes through the fields in order (`by-fields`), and of each later one it keeps the number or is of no use from there on (`Taken`). Assumes nothing.
-use Prim.Native.Nat.{ℕ, _+_, _-_, _*_}
+use Prim.Native.Char.{code}
+use Prim.Native.Nat.{ℕ, _+_, _-_, _*_, _<_, _≤_}
 use mathlib.Core.Bool.{Bool, true, false, _&&_, _||_}
 use mathlib.Core.List.{List, [], _∷_, _++_, foldl, foldl-append}
 use mathlib.Core.Option.{Option, some, none}
 use mathlib.Core.Path.{_≡_, refl, ap, sym, _∙_}
+use native.Mathlib.Numerals.{add-one}
 use lib.Dec.{leb, eqb}
+use lib.ListN.{length, take, getD}
+use lib.Seq.{take-suc, take-all}
 use Rattle.console.specs.declared.lines.Call.{Call}
 use Rattle.console.specs.declared.lines.Call.the-variants.{Other}
 use Rattle.console.specs.declared.lines.Parser.{Parser}
-use Rattle.console.specs.Lines.{Fields, cut, fieldsOf, isDigit, allDigits, valueFrom, numberOf, numberIf, also, numbersOf, bareCall, numbersCall, letterCall, fieldsCall, callOf}
+use Rattle.console.specs.Lines.{is, Fields, cut, fieldsOf, isDigit, allDigits, valueFrom, numberOf, numberIf, also, numbersOf, bareCall, numbersCall, letterCall, fieldsCall, callOf}
 use Rattle.console.specs.Parser.{freshOf, spoiledOf, letterOf, letterIf, digitOf, digitIf, commaOf, commaIf, plainOf, plainIf, nextOf, nextIf, parsedOf, severalOf, answerOf, answerIf}
 use Rattle.console.proofs.Held.{capped, beyond, held, size, digit-step, comma-held, answer-one, answer-two, answer-three}
 
@@ -31,7 +35,7 @@ through-cut false p b f = through-plain p b (f .first) (f .later)
 by-fields : (l : List ℕ) (p : Parser) → foldl nextOf p l ≡ through p (fieldsOf l .first) (fieldsOf l .later)
 unfolding fieldsOf through nextOf
 by-fields [] p = refl
-by-fields (b ∷ l) p = by-fields l (nextOf p b) ∙ through-cut (eqb b 44) p b (fieldsOf l)
+by-fields (b ∷ l) p = by-fields l (nextOf p b) ∙ through-cut (is "," b) p b (fieldsOf l)
 
 -- ---- an other line stays one
 letter-other : (t : Bool) (p : Parser) (b : ℕ) → p .other ≡ true → letterIf t p b .other ≡ true
@@ -86,24 +90,24 @@ and-right false b h = cc
 no-number : (f : List ℕ) (p : Parser) → eqb (p .commas) 0 ≡ false → allDigits f ≡ false → foldl plainOf p f .other ≡ true
 unfolding allDigits plainOf plainIf digitIf digitOf spoiledOf
 no-number [] p c h = cc
-no-number (b ∷ f) p c h = go (isDigit b) refl (no-number f (digitOf p (b - 48)) c)
+no-number (b ∷ f) p c h = go (isDigit b) refl (no-number f (digitOf p (b - code "0")) c)
   where
-    go : (t : Bool) → isDigit b ≡ t → (allDigits f ≡ false → foldl plainOf (digitOf p (b - 48)) f .other ≡ true) → foldl plainOf (plainOf p b) f .other ≡ true
+    go : (t : Bool) → isDigit b ≡ t → (allDigits f ≡ false → foldl plainOf (digitOf p (b - code "0")) f .other ≡ true) → foldl plainOf (plainOf p b) f .other ≡ true
     go true e ih = rw (c, e) (ih (rw e at h))
     go false e ih = rw (c, e) (field-other f (spoiledOf p) refl)
 
 -- in a field after the letter's, with the letter and the numbers before it given
 module _ (x : Bool) (letter k : ℕ) (later : eqb k 0 ≡ false) (w l : ℕ) (o : Bool) where
-  digit-held : (b : ℕ) (e : Bool) (v : ℕ) → isDigit b ≡ true → plainOf (held x letter k e w l v o) b ≡ held x letter k false w l (v * 10 + (b - 48)) o
+  digit-held : (b : ℕ) (e : Bool) (v : ℕ) → isDigit b ≡ true → plainOf (held x letter k e w l v o) b ≡ held x letter k false w l (v * 10 + (b - code "0")) o
   unfolding plainOf plainIf digitIf
-  digit-held b e v h = rw (later, h) (digit-step x letter k e w l v o (b - 48))
+  digit-held b e v h = rw (later, h) (digit-step x letter k e w l v o (b - code "0"))
 
   digits-held : (b : ℕ) (f : List ℕ) (e : Bool) (v : ℕ) → allDigits (b ∷ f) ≡ true → foldl plainOf (held x letter k e w l v o) (b ∷ f) ≡ held x letter k false w l (valueFrom v (b ∷ f)) o
   unfolding allDigits valueFrom
   digits-held b [] e v h = digit-held b e v (and-left (isDigit b) _ h)
   digits-held b (a ∷ f) e v h =
       rw (digit-held b e v (and-left (isDigit b) _ h))
-      (digits-held a f false (v * 10 + (b - 48)) (and-right (isDigit b) _ h))
+      (digits-held a f false (v * 10 + (b - code "0")) (and-right (isDigit b) _ h))
 
   -- what a field leaves: its number, or a parser whose line is an other line, whatever follows
   data Taken (f : List ℕ) : Type 0 where
@@ -171,7 +175,7 @@ module _ (x : Bool) (letter : ℕ) where
   first f (g ∷ gs) (nothing e a c) = rw e (lost gs _ g c)
 
 -- ---- the first field
-bare-letter : (x : Bool) (letter : ℕ) → answerOf (foldl plainOf (freshOf x) (letter ∷ [])) ≡ bareCall (eqb letter 68)
+bare-letter : (x : Bool) (letter : ℕ) → answerOf (foldl plainOf (freshOf x) (letter ∷ [])) ≡ bareCall (is "D" letter)
 unfolding freshOf plainOf plainIf letterOf letterIf answerOf answerIf
 bare-letter x letter = refl
 
@@ -207,6 +211,15 @@ parsed-call x line = ap answerOf (by-fields line (freshOf x)) ∙ fields-call x 
 pub parsed-more : (x : Bool) (line : List ℕ) (b : ℕ) → nextOf (parsedOf x line) b ≡ parsedOf x (line ++ b ∷ [])
 unfolding parsedOf
 parsed-more x line b = sym (foldl-append nextOf (freshOf x) line (b ∷ []))
+
+-- a line's bytes, by index
+pub parsed-next : {p : Parser} (x : Bool) (line : List ℕ) (i : ℕ) → i < length line → p ≡ parsedOf x (take i line) → nextOf p (getD line i 0) ≡ parsedOf x (take (i + 1) line)
+parsed-next x line i h e =
+    ap (λ (q : Parser). nextOf q (getD line i 0)) e
+    ∙ (parsed-more x (take i line) (getD line i 0) ∙ ap (parsedOf x) (sym (rw (add-one i) (take-suc line i 0 h))))
+
+pub parsed-all : {p : Parser} (x : Bool) (line : List ℕ) (i : ℕ) → length line ≤ i → p ≡ parsedOf x (take i line) → p ≡ parsedOf x line
+parsed-all x line i h e = e ∙ ap (parsedOf x) (take-all i line h)
 
 -- so what the parser answers, or goes on to, is told of the line that it holds
 pub answered : (r : Call) (p : Parser) → r ≡ answerOf p → (r ≡ answerOf p) × ((x : Bool) (line : List ℕ) → p ≡ parsedOf x line → r ≡ callOf x line)

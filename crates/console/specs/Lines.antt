@@ -1,5 +1,6 @@
 -- 01, "The program `wall`": which call a line is. A line is its bytes without the line feed.
 -- After the letter it holds decimal digits and commas alone; whatever else a line holds, it is an other line.
+use Prim.Native.Char.{Char, code}
 use Prim.Native.Nat.{ℕ, _+_, _-_, _*_, _^_, min}
 use mathlib.Core.Bool.{Bool, true, false, _&&_}
 use mathlib.Core.List.{List, [], _∷_}
@@ -7,6 +8,10 @@ use mathlib.Core.Option.{Option, some, none}
 use lib.Dec.{leb, ltb, eqb}
 use Rattle.console.specs.declared.lines.Call.{Call}
 use Rattle.console.specs.declared.lines.Call.the-variants.{Rate, Typed, Lapse, Fill, ForcedData, Other}
+
+-- the byte of an ASCII character
+abbrev pub is : Char → ℕ → Bool
+is c b = eqb b (code c)
 
 -- the fields of a line: what stands between its commas
 pub record Fields : Type 0 where
@@ -19,11 +24,11 @@ cut false b f = record { first = b ∷ f .first; later = f .later }
 
 unfoldable pub fieldsOf : List ℕ → Fields
 fieldsOf [] = record { first = []; later = [] }
-fieldsOf (b ∷ l) = cut (eqb b 44) b (fieldsOf l)
+fieldsOf (b ∷ l) = cut (is "," b) b (fieldsOf l)
 
 -- a field is a number if it is decimal digits, one or more; leading zeros are digits
 abbrev pub isDigit : ℕ → Bool
-isDigit b = leb 48 b && leb b 57
+isDigit b = leb (code "0") b && leb b (code "9")
 
 unfoldable pub allDigits : List ℕ → Bool
 allDigits [] = true
@@ -31,7 +36,7 @@ allDigits (b ∷ f) = isDigit b && allDigits f
 
 unfoldable pub valueFrom : ℕ → List ℕ → ℕ
 valueFrom v [] = v
-valueFrom v (b ∷ f) = valueFrom (v * 10 + (b - 48)) f
+valueFrom v (b ∷ f) = valueFrom (v * 10 + (b - code "0")) f
 
 unfoldable pub numberIf : Bool → ℕ → Option ℕ
 numberIf true n = some n
@@ -102,10 +107,10 @@ threeCall true n m o = typedCall n m o
 threeCall false n m o = Other
 
 unfoldable pub numbersCall : Bool → ℕ → List ℕ → Call
-numbersCall extended letter [] = bareCall (eqb letter 68)
-numbersCall extended letter (n ∷ []) = oneCall (eqb letter 82) (eqb letter 70) extended n
-numbersCall extended letter (n ∷ m ∷ []) = twoCall (eqb letter 84) (eqb letter 87) n m
-numbersCall extended letter (n ∷ m ∷ o ∷ []) = threeCall (extended && eqb letter 84) n m o
+numbersCall extended letter [] = bareCall (is "D" letter)
+numbersCall extended letter (n ∷ []) = oneCall (is "R" letter) (is "F" letter) extended n
+numbersCall extended letter (n ∷ m ∷ []) = twoCall (is "T" letter) (is "W" letter) n m
+numbersCall extended letter (n ∷ m ∷ o ∷ []) = threeCall (extended && is "T" letter) n m o
 numbersCall extended letter (n ∷ m ∷ o ∷ p ∷ ns) = Other
 
 unfoldable pub letterCall : Bool → ℕ → Option (List ℕ) → Call

@@ -1,5 +1,6 @@
 -- What the parser holds after some bytes of a line, and what it answers at the line's end.
 -- `readOf` is what a byte does to a line, by the definition of lines: the rest here is how the parser comes to it.
+use Prim.Native.Char.{code}
 use Prim.Native.Nat.{ℕ, _+_, _-_, _*_, _^_, min}
 use mathlib.Core.Bool.{Bool, true, false, _&&_, _||_}
 use mathlib.Core.List.{List, [], _∷_, _++_, foldl}
@@ -9,7 +10,7 @@ use Rattle.console.specs.declared.lines.Call.the-variants.{Other}
 use Rattle.console.specs.declared.lines.Parser.{Parser}
 use Rattle.console.specs.declared.lines.Pushed.{Pushed}
 use Rattle.console.specs.declared.lines.Pushed.the-variants.{More, Line}
-use Rattle.console.specs.Lines.{callOf, isDigit, bareCall, oneCall, twoCall, threeCall}
+use Rattle.console.specs.Lines.{callOf, is, isDigit, bareCall, oneCall, twoCall, threeCall}
 
 -- the largest number of 64 bits
 abbrev pub largest : ℕ
@@ -85,7 +86,7 @@ commaOf p = commaIf (p .empty || leb 3 (p .commas)) p
 
 -- a byte that is no comma: of the first field, of a later one
 unfoldable pub digitIf : Bool → Parser → ℕ → Parser
-digitIf true p b = digitOf p (b - 48)
+digitIf true p b = digitOf p (b - code "0")
 digitIf false p b = spoiledOf p
 
 unfoldable pub plainIf : Bool → Parser → ℕ → Parser
@@ -100,7 +101,7 @@ nextIf true p b = commaOf p
 nextIf false p b = plainOf p b
 
 unfoldable pub nextOf : Parser → ℕ → Parser
-nextOf p b = nextIf (eqb b 44) p b
+nextOf p b = nextIf (is "," b) p b
 
 -- the state after the bytes of a line so far
 unfoldable pub parsedOf : Bool → List ℕ → Parser
@@ -109,14 +110,14 @@ parsedOf extended line = foldl nextOf (freshOf extended) line
 -- what the line is if it ends here: none where it is spoiled, where the last field is empty, or where one of two or more numbers is too long
 unfoldable pub severalOf : Bool → Bool → Parser → Call
 severalOf true isTwo p = Other
-severalOf false true p = twoCall (eqb (p .letter) 84) (eqb (p .letter) 87) (p .last) (p .number)
-severalOf false false p = threeCall (p .extended && eqb (p .letter) 84) (p .earlier) (p .last) (p .number)
+severalOf false true p = twoCall (is "T" (p .letter)) (is "W" (p .letter)) (p .last) (p .number)
+severalOf false false p = threeCall (p .extended && is "T" (p .letter)) (p .earlier) (p .last) (p .number)
 
 unfoldable pub answerIf : Bool → Bool → Bool → Bool → Parser → Call
 answerIf true isBare isEmpty isOne p = Other
-answerIf false true isEmpty isOne p = bareCall (eqb (p .letter) 68)
+answerIf false true isEmpty isOne p = bareCall (is "D" (p .letter))
 answerIf false false true isOne p = Other
-answerIf false false false true p = oneCall (eqb (p .letter) 82) (eqb (p .letter) 70) (p .extended) (p .number)
+answerIf false false false true p = oneCall (is "R" (p .letter)) (is "F" (p .letter)) (p .extended) (p .number)
 answerIf false false false false p = severalOf (p .over) (eqb (p .commas) 2) p
 
 unfoldable pub answerOf : Parser → Call
@@ -128,7 +129,7 @@ pushedIf true p b = Line (answerOf p)
 pushedIf false p b = More (nextOf p b)
 
 unfoldable pub pushedOf : Parser → ℕ → Pushed
-pushedOf p b = pushedIf (eqb b 10) p b
+pushedOf p b = pushedIf (is "\n" b) p b
 
 -- a byte after the bytes of a line so far
 unfoldable pub readIf : Bool → Bool → List ℕ → ℕ → Pushed
@@ -136,4 +137,4 @@ readIf true extended line b = Line (callOf extended line)
 readIf false extended line b = More (parsedOf extended (line ++ b ∷ []))
 
 unfoldable pub readOf : Bool → List ℕ → ℕ → Pushed
-readOf extended line b = readIf (eqb b 10) extended line b
+readOf extended line b = readIf (is "\n" b) extended line b

@@ -4,8 +4,8 @@ ghost use mathlib.Core.Path.{_≡_};
 ghost use mathlib.Core.Bool.{Bool, _&&_};
 ghost use mathlib.Core.List.{List, []};
 ghost use Prim.Native.Nat.{ℕ, _+_, _-_, _*_, _^_, _≤_, min};
-ghost use lib.Dec.{eqb, ltb};
-ghost use Rattle.console.specs.Lines.{callOf, bareCall, oneCall, twoCall, threeCall, rateCall, fillCall, typedCall, lapseCall, longestOf};
+ghost use lib.Dec.{ltb};
+ghost use Rattle.console.specs.Lines.{callOf, is, bareCall, oneCall, twoCall, threeCall, rateCall, fillCall, typedCall, lapseCall, longestOf};
 ghost use Rattle.console.specs.Parser.{largest, spoiledOf, letterOf, digitOf, commaOf, nextOf, pushedOf, answerOf, parsedOf, readOf};
 
 // What a line asks for. A line that is none of the five is `Other`.
@@ -189,6 +189,19 @@ impl Parser {
     }
 }
 
+// A whole line, without its line feed.
+pub fn call_of(extended: bool, line: &[u8]) -> Call
+    ensures { λ r. ⌜ r ≡ callOf extended (now (line .entry)) ⌝ }
+{
+    let mut parser = Parser::new(extended);
+    let mut i = 0;
+    while i < line.len() {
+        parser = parser.next(line[i]);
+        i += 1;
+    }
+    parser.finish()
+}
+
 // The number with one digit more, or the largest of 64 bits.
 fn grown(number: u64, digit: u8) -> u64
     ensures { λ r. ⌜ r ≡ min (number * 10 + digit) largest ⌝ }
@@ -211,7 +224,7 @@ fn overflows(number: u64, digit: u8) -> bool
 
 // A letter and nothing else.
 fn bare(letter: u8) -> Call
-    ensures { λ r. ⌜ r ≡ bareCall (eqb letter 68) ⌝ }
+    ensures { λ r. ⌜ r ≡ bareCall (is "D" letter) ⌝ }
 {
     if letter == b'D' {
         return Call::ForcedData;
@@ -220,7 +233,7 @@ fn bare(letter: u8) -> Call
 }
 
 fn one(extended: bool, letter: u8, number: u64) -> Call
-    ensures { λ r. ⌜ r ≡ oneCall (eqb letter 82) (eqb letter 70) extended number ⌝ }
+    ensures { λ r. ⌜ r ≡ oneCall (is "R" letter) (is "F" letter) extended number ⌝ }
 {
     if letter == b'R' {
         return rate(number);
@@ -232,7 +245,7 @@ fn one(extended: bool, letter: u8, number: u64) -> Call
 }
 
 fn two(letter: u8, first: u64, second: u64) -> Call
-    ensures { λ r. ⌜ r ≡ twoCall (eqb letter 84) (eqb letter 87) first second ⌝ }
+    ensures { λ r. ⌜ r ≡ twoCall (is "T" letter) (is "W" letter) first second ⌝ }
 {
     if letter == b'T' {
         return typed(first, second, 16);
@@ -244,7 +257,7 @@ fn two(letter: u8, first: u64, second: u64) -> Call
 }
 
 fn three(extended: bool, letter: u8, first: u64, second: u64, third: u64) -> Call
-    ensures { λ r. ⌜ r ≡ threeCall (extended && eqb letter 84) first second third ⌝ }
+    ensures { λ r. ⌜ r ≡ threeCall (extended && is "T" letter) first second third ⌝ }
 {
     if extended & (letter == b'T') {
         return typed(first, second, third);

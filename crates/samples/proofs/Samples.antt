@@ -55,7 +55,7 @@ pub record Written (was : List ℕ) (at : ℕ) (samples : List Float) (out : Lis
 
 pub written-none : {was : List ℕ} {at : ℕ} {samples : List Float} → at + length samples * 4 ≤ length was → Written was at samples was at 0
 unfolding bytesOf
-written-none {was} {at} h = record { room = h; within = omega arith; page = sym (add-nothing was at (omega arith)) }
+written-none {was} {at} h = record { room = h; within = omega arith; page = sym (add-nothing was at) }
 
 pub written-long : {was : List ℕ} {at : ℕ} {samples : List Float} {out : List ℕ} {place i : ℕ} → Written was at samples out place i → length out ≡ length was
 written-long {was} {at} {samples} {out} {place} {i} k =

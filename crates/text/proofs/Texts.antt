@@ -1,5 +1,5 @@
 -- Texts written at a place of a buffer, front to back or back to front, and the digits of a number. Assumes nothing.
-use Prim.Native.Nat.{ℕ, zero, suc, _+_, _-_, _*_, _/_, _%_, _^_, _<_, _≤_}
+use Prim.Native.Nat.{ℕ, zero, suc, _+_, _-_, _*_, _/_, _%_, _^_, _<_, _≤_, zero-le}
 use mathlib.Core.Bool.{Bool, true, false}
 use mathlib.Core.List.{List, [], _∷_, _++_, append-assoc, append-nil}
 use mathlib.Core.Path.{_≡_, refl, ap, sym, _∙_}
@@ -10,6 +10,8 @@ use borrow.Author.Tests.{leb-true, le-leb, lt-leb, lt-ltb, le-ltb, ltb-true, ltb
 use lib.Dec.{leb, ltb}
 use lib.ListN.{length, take, drop, set, getD, take-append-drop, length-append, length-take, length-drop, length-set}
 use lib.Seq.{paste, paste-zero, paste-suc, length-paste, take-length, take-set-le, set-split, take-at, drop-at, drop-drop, length-take-le}
+use Rattle.text.specs.Ascii.{ascii}
+use Rattle.text.specs.Seconds.{secondsIf}
 use Rattle.text.specs.Text.{Page, pageOf, addOf, addIf}
 use Rattle.text.specs.Digits.{glyphOf, lastDigits, decimalFrom, decimalIf, decimalOf, placesOf}
 
@@ -35,8 +37,14 @@ digits-whole out at base k n h =
 pub digits-none : (out : List ℕ) (at base k n : ℕ) → length out < at + k → addOf (pageOf out at) (lastDigits base k n) ≡ pageOf out at
 digits-none out at base k n h = let e = digits-long base k n in add-none out at (lastDigits base k n) (omega arith)
 
-pub add-nothing : (out : List ℕ) (at : ℕ) → at ≤ length out → addOf (pageOf out at) [] ≡ pageOf out at
-add-nothing out at h = add-whole out at [] (omega arith) ∙ rw (add-zero, append-nil, take-append-drop)
+add-if-nothing : (t : Bool) (out : List ℕ) (at : ℕ) → addIf t (pageOf out at) [] ≡ pageOf out at
+unfolding addIf
+add-if-nothing true out at = rw (add-zero at, append-nil (take at out), take-append-drop at out)
+add-if-nothing false out at = refl
+
+pub add-nothing : (out : List ℕ) (at : ℕ) → addOf (pageOf out at) [] ≡ pageOf out at
+unfolding addOf
+add-nothing out at = add-if-nothing (leb (at + 0) (length out)) out at
 
 add-if-long : (t : Bool) (p : Page) (text : List ℕ) → leb (p .place + length text) (length (p .bytes)) ≡ t → length (addIf t p text .bytes) ≡ length (p .bytes)
 unfolding addIf
@@ -128,6 +136,20 @@ pub decimal-last : (n : ℕ) → decimalOf n ≡ lastDigits 10 (placesOf n) n
 unfolding decimalOf placesOf
 decimal-last n = decimal-from 20 n
 
+shorter : (t : Bool) (before : List ℕ) (d k : ℕ) → length before ≤ k → length (decimalIf t before d) ≤ k + 1
+unfolding decimalIf
+shorter true before d k h = omega arith
+shorter false before d k h = rw (longer before d) (omega arith)
+
+few-digits : (k n : ℕ) → length (decimalFrom k n) ≤ k
+unfolding decimalFrom
+few-digits zero n = zero-le
+few-digits (suc k) n = rw (← (add-one k)) (shorter (ltb n 10) (decimalFrom k (n / 10)) (glyphOf (n % 10)) k (few-digits k (n / 10)))
+
+pub few-places : (n : ℕ) → placesOf n ≤ 20
+unfolding placesOf decimalOf
+few-places n = few-digits 20 n
+
 -- ---- how many those are, counted by dividing: the number n, at its j-th division from the end, has c digits behind it
 pub record Counted (n c rest : ℕ) : Type 0 where
   pub left : ℕ
@@ -171,3 +193,23 @@ add-join out at s t h =
     ∙ (add-whole (head ++ rest) (at + length s) t (omega arith)
     ∙ ((rw (take-at head rest (at + length s) long, back, both, append-assoc (take at out) s t))
     ∙ sym (add-whole out at (s ++ t) (omega arith))))
+
+-- ---- whole seconds, a point and the fraction
+module _ (out : List ℕ) (at parts : ℕ) where
+  seconds-long : length (secondsIf false parts) ≡ placesOf (parts / 10000) + 5
+  unfolding secondsIf placesOf
+  seconds-long = simp (length-append, digits-long) (omega arith)
+
+  pub seconds-whole : at + (placesOf (parts / 10000) + 5) ≤ length out → addOf (addOf (addOf (pageOf out at) (lastDigits 10 (placesOf (parts / 10000)) (parts / 10000))) (ascii ".")) (lastDigits 10 4 parts) ≡ addOf (pageOf out at) (secondsIf false parts)
+  unfolding secondsIf
+  seconds-whole h =
+      let w : List ℕ = lastDigits 10 (placesOf (parts / 10000)) (parts / 10000) in
+      let l : length w ≡ placesOf (parts / 10000) = digits-long 10 (placesOf (parts / 10000)) (parts / 10000) in
+      let m : length (w ++ ascii ".") ≡ placesOf (parts / 10000) + 1 = length-append w (ascii ".") ∙ ap (λ (n : ℕ). n + 1) l in
+      let n : length (lastDigits 10 4 parts) ≡ 4 = digits-long 10 4 parts in
+      ap (λ (p : Page). addOf p (lastDigits 10 4 parts)) (add-join out at w (ascii ".") (omega arith))
+      ∙ (add-join out at (w ++ ascii ".") (lastDigits 10 4 parts) (omega arith)
+      ∙ ap (λ (t : List ℕ). addOf (pageOf out at) (t ++ ascii "." ++ lastDigits 10 4 parts)) (sym (decimal-last (parts / 10000))))
+
+  pub seconds-none : length out < at + (placesOf (parts / 10000) + 5) → addOf (pageOf out at) (secondsIf false parts) ≡ pageOf out at
+  seconds-none h = let e = seconds-long in add-none out at (secondsIf false parts) (omega arith)

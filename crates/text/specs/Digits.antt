@@ -1,5 +1,6 @@
 -- Numbers as text: the digits of a number in a base up to 16, the most significant first.
-use Prim.Native.Nat.{ℕ, zero, suc, _+_, _*_, _/_, _%_}
+use Prim.Native.Char.{code}
+use Prim.Native.Nat.{ℕ, zero, suc, _+_, _-_, _/_, _%_}
 use mathlib.Core.Bool.{Bool, true, false}
 use mathlib.Core.List.{List, [], _∷_, _++_}
 use lib.Dec.{ltb}
@@ -7,8 +8,8 @@ use lib.ListN.{length}
 
 -- 0 to 9, then A to F
 unfoldable pub glyphIf : Bool → ℕ → ℕ
-glyphIf true d = 48 + d
-glyphIf false d = 55 + d
+glyphIf true d = code "0" + d
+glyphIf false d = code "A" + (d - 10)
 
 unfoldable pub glyphOf : ℕ → ℕ
 glyphOf d = glyphIf (ltb d 10) d

@@ -45,18 +45,23 @@ pub fn put_hex(out: &mut [u8], at: usize, number: u64, count: usize) -> usize
     put_digits(out, at, number, 16, count)
 }
 
-// How long samples last at a rate, in seconds with four decimals, rounded to the nearest: the whole
-// seconds, a point and the fraction, one after the other. At the rate 0, nothing.
+// How long samples last at a rate, in seconds with four decimals, rounded to the nearest. At the
+// rate 0, nothing.
 pub fn put_seconds(out: &mut [u8], at: usize, samples: u32, rate: u32) -> usize
-    ensures { λ r. ⌜ pageOf (now (out .exit)) r ≡ secondsOf (pageOf (now (out .entry)) at) samples rate ⌝ }
+    ensures { λ r. ⌜ pageOf (now (out .exit)) r ≡ addOf (pageOf (now (out .entry)) at) (secondsOf samples rate) ⌝ }
 {
     if rate == 0 {
         return at;
     }
     let parts = (samples as u64 * 10000 + rate as u64 / 2) / rate as u64;
-    let point = put_decimal(out, at, parts / 10000);
-    let fraction = put_byte(out, point, b'.');
-    put_digits(out, fraction, parts, 10, 4)
+    let whole = parts / 10000;
+    let count = places(whole);
+    if has_room(out.len(), at, count + 5) {
+        let point = put_digits(out, at, whole, 10, count);
+        let fraction = put_byte(out, point, b'.');
+        return put_digits(out, fraction, parts, 10, 4);
+    }
+    at
 }
 
 fn put_digits(out: &mut [u8], at: usize, number: u64, base: u64, count: usize) -> usize
@@ -105,7 +110,7 @@ fn glyph(digit: u64) -> u8
     if digit < 10 {
         return b'0' + digit as u8;
     }
-    b'A' - 10 + digit as u8
+    b'A' + (digit - 10) as u8
 }
 
 // How many decimal digits a number has.

@@ -1,5 +1,4 @@
 -- `text::glyph` meets its contract. Assumes nothing.
-use native.Mathlib.Omega.{arith}
 use borrow.Author.Needs.{needs}
 use borrow.Author.Tests.{lt-ltb, le-ltb}
 use Rattle.text.specs.Digits.{glyphOf, glyphIf}
@@ -16,9 +15,6 @@ returns : tie.Need-returns
 unfolding glyphOf glyphIf
 returns c = rw (lt-ltb _ _ (c .if1 .taken))
 
-sub-result : tie.Need-sub-result
-sub-result c = search needs
-
 cast-result-2 : tie.Need-cast-result-2
 cast-result-2 c = search needs
 
@@ -30,4 +26,5 @@ unfolding glyphOf glyphIf
 returns-2 c = rw (le-ltb _ _ (c .if1 .left))
 
 pub glyph-spec : {M : Type 1} → statement M
-glyph-spec = tie.close (tie.spec cast-result add-result returns sub-result cast-result-2 add-result-2 returns-2)
+glyph-spec =
+    tie.close (tie.spec cast-result add-result returns cast-result-2 add-result-2 returns-2)
