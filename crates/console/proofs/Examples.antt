@@ -1,5 +1,4 @@
 -- Which calls some lines are, computed: 01's own, and those at the edges of what a line may hold. Assumes nothing.
-use Prim.Native.Nat.{ℕ}
 use Prim.Native.String.{String}
 use mathlib.Core.Bool.{true, false}
 use mathlib.Core.Path.{_≡_, refl}

@@ -14,7 +14,7 @@ use Rattle.console.specs.declared.lines.Call.{Call}
 use Rattle.console.specs.declared.lines.Call.the-variants.{Other}
 use Rattle.console.specs.declared.lines.Parser.{Parser}
 use Rattle.console.specs.Lines.{is, Fields, cut, fieldsOf, isDigit, allDigits, valueFrom, numberOf, numberIf, also, numbersOf, bareCall, numbersCall, letterCall, fieldsCall, callOf}
-use Rattle.console.specs.Parser.{freshOf, spoiledOf, letterOf, letterIf, digitOf, digitIf, commaOf, commaIf, plainOf, plainIf, nextOf, nextIf, parsedOf, severalOf, answerOf, answerIf}
+use Rattle.console.specs.Parser.{freshOf, spoiledOf, letterOf, letterIf, digitOf, digitIf, commaOf, commaIf, plainOf, plainIf, nextOf, nextIf, parsedOf, answerOf, answerIf}
 use Rattle.console.proofs.Held.{capped, beyond, held, size, digit-step, comma-held, answer-one, answer-two, answer-three}
 
 -- ---- the bytes in order are the fields in order

@@ -3,7 +3,7 @@
 ghost use mathlib.Core.Path.{_≡_};
 ghost use mathlib.Core.Bool.{Bool, _&&_};
 ghost use mathlib.Core.List.{List, []};
-ghost use Prim.Native.Nat.{ℕ, _+_, _-_, _*_, _^_, _≤_, min};
+ghost use Prim.Native.Nat.{ℕ, _+_, _*_, min};
 ghost use lib.Dec.{ltb};
 ghost use Rattle.console.specs.Lines.{callOf, is, bareCall, oneCall, twoCall, threeCall, rateCall, fillCall, typedCall, lapseCall, longestOf};
 ghost use Rattle.console.specs.Parser.{largest, spoiledOf, letterOf, digitOf, commaOf, nextOf, pushedOf, answerOf, parsedOf, readOf};

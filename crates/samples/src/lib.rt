@@ -3,13 +3,11 @@ pub mod fnv;
 pub mod wav;
 
 ghost use mathlib.Core.Path.{_≡_};
-ghost use Prim.Native.Nat.{_+_, _*_};
-ghost use lib.Dec.{leb};
 ghost use lib.Ieee.{binary32, toBits};
 ghost use Rattle.samples.specs.Bytes.{lowFirst, bytesOf};
 ghost use Rattle.text.specs.Text.{pageOf, addOf};
 
-// The bit pattern of a sample. No sample is a NaN; that has one pattern here.
+// The bit pattern of a sample. A NaN, which no sample is, has one pattern here.
 pub fn bits(sample: f32) -> u32
     ensures { λ r. ⌜ r ≡ toBits binary32 sample ⌝ }
 {
@@ -39,7 +37,7 @@ pub fn low_first(number: u64) -> [u8; 4]
 pub fn put_samples(out: &mut [u8], at: usize, samples: &[f32]) -> usize
     ensures { λ r. ⌜ pageOf (now (out .exit)) r ≡ addOf (pageOf (now (out .entry)) at) (bytesOf (now (samples .entry))) ⌝ }
 {
-    if has_room(out.len(), at, samples.len()) {
+    if text::has_room(out.len(), at, samples.len() * 4) {
         let mut place = at;
         let mut i = 0;
         while i < samples.len() {
@@ -56,17 +54,4 @@ fn put_sample(out: &mut [u8], at: usize, sample: f32) -> usize
 {
     let bytes = low_first(bits(sample) as u64);
     text::put(out, at, &bytes)
-}
-
-// Whether the bytes of `count` samples fit at a place of a buffer.
-fn has_room(room: usize, at: usize, count: usize) -> bool
-    ensures { λ r. ⌜ r ≡ leb (at + count * 4) room ⌝ }
-{
-    if room < at {
-        return false;
-    }
-    if (room - at) / 4 < count {
-        return false;
-    }
-    true
 }

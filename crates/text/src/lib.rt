@@ -9,6 +9,19 @@ ghost use Rattle.text.specs.Text.{pageOf, addOf};
 ghost use Rattle.text.specs.Digits.{glyphOf, lastDigits, placesOf, decimalOf};
 ghost use Rattle.text.specs.Seconds.{secondsOf};
 
+// Whether a text of `count` bytes fits at a place of a buffer.
+pub fn has_room(room: usize, at: usize, count: usize) -> bool
+    ensures { λ r. ⌜ r ≡ leb (at + count) room ⌝ }
+{
+    if room < at {
+        return false;
+    }
+    if room - at < count {
+        return false;
+    }
+    true
+}
+
 pub fn put(out: &mut [u8], at: usize, text: &[u8]) -> usize
     ensures { λ r. ⌜ pageOf (now (out .exit)) r ≡ addOf (pageOf (now (out .entry)) at) (now (text .entry)) ⌝ }
 {
@@ -73,19 +86,6 @@ fn put_digits(out: &mut [u8], at: usize, number: u64, base: u64, count: usize) -
         return at + count;
     }
     at
-}
-
-// Whether a text of `count` bytes fits at a place of a buffer.
-fn has_room(room: usize, at: usize, count: usize) -> bool
-    ensures { λ r. ⌜ r ≡ leb (at + count) room ⌝ }
-{
-    if room < at {
-        return false;
-    }
-    if room - at < count {
-        return false;
-    }
-    true
 }
 
 // From the last digit to the first.

@@ -16,6 +16,9 @@ Inv-loop out₀ at samples place₀ i₀ out place i = Written out₀ at samples
 abbrev μ-loop : tie.MeasureT-loop
 μ-loop out₀ at samples place₀ i₀ out place i = length samples - i
 
+mul-has-room : tie.Need-mul-has-room Inv-loop μ-loop
+mul-has-room c = search needs
+
 has-room-requires : tie.Need-has-room-requires Inv-loop μ-loop
 has-room-requires c κs = search needs
 
@@ -50,4 +53,20 @@ returns-2 : tie.Need-returns-2 Inv-loop μ-loop
 returns-2 c = sym (written-nothing _ _ _ (leb-false _ _ (sym (c .before .has-room .ensures) ∙ c .if1 .left)))
 
 pub put-samples-spec : {M : Type 1} → statement M
-put-samples-spec = tie.close (tie.spec Inv-loop μ-loop has-room-requires loop-holds mul-put-sample shared-slice-read-put-sample put-sample-requires add-i loop-less loop-again same-length returns returns-2)
+put-samples-spec =
+    tie.close
+    (tie.spec
+    Inv-loop
+    μ-loop
+    mul-has-room
+    has-room-requires
+    loop-holds
+    mul-put-sample
+    shared-slice-read-put-sample
+    put-sample-requires
+    add-i
+    loop-less
+    loop-again
+    same-length
+    returns
+    returns-2)

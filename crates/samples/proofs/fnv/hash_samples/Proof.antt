@@ -43,4 +43,16 @@ returns : tie.Need-returns Inv-loop μ-loop
 returns c = hashed-all (c .loop-test .left) (c .before .loop .inv)
 
 pub hash-samples-spec : {M : Type 1} → statement M
-hash-samples-spec = tie.close (tie.spec Inv-loop μ-loop loop-holds mul-hash-sample shared-slice-read-hash-sample hash-sample-requires add-i loop-less loop-again returns)
+hash-samples-spec =
+    tie.close
+    (tie.spec
+    Inv-loop
+    μ-loop
+    loop-holds
+    mul-hash-sample
+    shared-slice-read-hash-sample
+    hash-sample-requires
+    add-i
+    loop-less
+    loop-again
+    returns)

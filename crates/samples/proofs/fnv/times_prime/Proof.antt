@@ -18,4 +18,10 @@ returns : tie.Need-returns
 returns c = c .wrapping-add-u64 .ensures ∙ prime-parts (c .before .args .a)
 
 pub times-prime-spec : {M : Type 1} → statement M
-times-prime-spec = tie.close (tie.spec mul-wrapping-add-u64 mul-wrapping-add-u64-2 wrapping-add-u64-requires returns)
+times-prime-spec =
+    tie.close
+    (tie.spec
+    mul-wrapping-add-u64
+    mul-wrapping-add-u64-2
+    wrapping-add-u64-requires
+    returns)

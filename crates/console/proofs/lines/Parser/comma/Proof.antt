@@ -27,4 +27,12 @@ unfolding commaOf commaIf
 returns-3 c = rw (c .before .if1 .left, lt-leb _ _ (c .if2 .left))
 
 pub comma-spec : {M : Type 1} → statement M
-comma-spec = tie.close (tie.spec spoiled-requires returns spoiled-requires-2 returns-2 add-t4 returns-3)
+comma-spec =
+    tie.close
+    (tie.spec
+    spoiled-requires
+    returns
+    spoiled-requires-2
+    returns-2
+    add-t4
+    returns-3)

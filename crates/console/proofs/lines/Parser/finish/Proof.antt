@@ -1,6 +1,5 @@
 -- `console::lines::Parser::finish` meets its contract: each test picks the definition's case, and what that says of a line is `answered`.
 -- Assumes nothing.
-use mathlib.Core.Path.{refl}
 use borrow.Author.Needs.{needs}
 use borrow.Author.Tests.{eq-eqb, ne-eqb}
 use Rattle.console.specs.Parser.{answerOf, answerIf, severalOf}

@@ -57,4 +57,16 @@ returns-5 c =
     (c .spoiled2 .ensures)
 
 pub next-spec : {M : Type 1} → statement M
-next-spec = tie.close (tie.spec comma-requires returns first-requires returns-2 spoiled-requires returns-3 digit-requires returns-4 spoiled-requires-2 returns-5)
+next-spec =
+    tie.close
+    (tie.spec
+    comma-requires
+    returns
+    first-requires
+    returns-2
+    spoiled-requires
+    returns-3
+    digit-requires
+    returns-4
+    spoiled-requires-2
+    returns-5)
