@@ -87,7 +87,7 @@ lapseIf false ns carrier = Other
 unfoldable pub lapseCall : ℕ → ℕ → Call
 lapseCall ns carrier = lapseIf (ltb ns (2 ^ 64) && leb carrier 1) ns carrier
 
--- D alone; R or F and one number; T or W and two; in `tap --ext` T and three
+-- D alone; R or F and one number; T or W and two, with an outbox of 16 for T; in `tap --ext` T and three
 unfoldable pub bareCall : Bool → Call
 bareCall true = ForcedData
 bareCall false = Other

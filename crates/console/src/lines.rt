@@ -14,6 +14,7 @@ pub enum Call {
     Typed {
         byte: u8,
         carrier: bool,
+        // 16 where the line names none.
         outbox: usize,
     },
     Lapse {
