@@ -1,0 +1,16 @@
+-- `console::lines::bare` meets its contract. Assumes nothing.
+use borrow.Author.Tests.{eq-eqb, ne-eqb}
+use Rattle.console.specs.Lines.{bareCall}
+use Rattle.console.proofs.lines.bare.Statement.{statement}
+use Rattle.console.proofs.lines.bare.Tie as tie
+
+returns : tie.Need-returns
+unfolding bareCall
+returns c = rw (eq-eqb _ _ (c .if1 .taken))
+
+returns-2 : tie.Need-returns-2
+unfolding bareCall
+returns-2 c = rw (ne-eqb _ _ (c .if1 .left))
+
+pub bare-spec : {M : Type 1} → statement M
+bare-spec = tie.close (tie.spec returns returns-2)

@@ -1,0 +1,127 @@
+-- 01, "The program `wall`": which call a line is. A line is its bytes without the line feed.
+-- After the letter it holds decimal digits and commas alone; whatever else a line holds, it is an other line.
+use Prim.Native.Char.{Char, code}
+use Prim.Native.Nat.{ℕ, _+_, _-_, _*_, _^_, min}
+use mathlib.Core.Bool.{Bool, true, false, _&&_}
+use mathlib.Core.List.{List, [], _∷_}
+use mathlib.Core.Option.{Option, some, none}
+use lib.Dec.{leb, ltb, eqb}
+use Rattle.console.specs.declared.lines.Call.{Call}
+use Rattle.console.specs.declared.lines.Call.the-variants.{Rate, Typed, Lapse, Fill, ForcedData, Other}
+
+-- the byte of an ASCII character
+abbrev pub is : Char → ℕ → Bool
+is c b = eqb b (code c)
+
+-- the fields of a line: what stands between its commas
+pub record Fields : Type 0 where
+  pub first : List ℕ
+  pub later : List (List ℕ)
+
+unfoldable pub cut : Bool → ℕ → Fields → Fields
+cut true b f = record { first = []; later = f .first ∷ f .later }
+cut false b f = record { first = b ∷ f .first; later = f .later }
+
+unfoldable pub fieldsOf : List ℕ → Fields
+fieldsOf [] = record { first = []; later = [] }
+fieldsOf (b ∷ l) = cut (is "," b) b (fieldsOf l)
+
+-- a field is a number if it is decimal digits, one or more; leading zeros are digits
+abbrev pub isDigit : ℕ → Bool
+isDigit b = leb (code "0") b && leb b (code "9")
+
+unfoldable pub allDigits : List ℕ → Bool
+allDigits [] = true
+allDigits (b ∷ f) = isDigit b && allDigits f
+
+unfoldable pub valueFrom : ℕ → List ℕ → ℕ
+valueFrom v [] = v
+valueFrom v (b ∷ f) = valueFrom (v * 10 + (b - code "0")) f
+
+unfoldable pub numberIf : Bool → ℕ → Option ℕ
+numberIf true n = some n
+numberIf false n = none
+
+unfoldable pub numberOf : List ℕ → Option ℕ
+numberOf [] = none
+numberOf (b ∷ f) = numberIf (allDigits (b ∷ f)) (valueFrom 0 (b ∷ f))
+
+unfoldable pub also : Option ℕ → Option (List ℕ) → Option (List ℕ)
+also none ns = none
+also (some n) none = none
+also (some n) (some ns) = some (n ∷ ns)
+
+unfoldable pub numbersOf : List (List ℕ) → Option (List ℕ)
+numbersOf [] = some []
+numbersOf (f ∷ fs) = also (numberOf f) (numbersOf fs)
+
+-- R,rate: a rate too long for the type is the type's largest, and so outside the limits
+abbrev pub rateCall : ℕ → Call
+rateCall n = Rate (min n (2 ^ 32 - 1))
+
+-- F,length: at most 16,384, and in `tap --ext` 70,000
+abbrev pub longestOf : Bool → ℕ
+longestOf true = 70000
+longestOf false = 16384
+
+unfoldable pub fillIf : Bool → ℕ → Call
+fillIf true n = Fill n
+fillIf false n = Other
+
+unfoldable pub fillCall : Bool → ℕ → Call
+fillCall extended n = fillIf (leb n (longestOf extended)) n
+
+-- T,byte,carrier: a byte is at most 255, a carrier flag 0 or 1, an outbox at most 16 long
+unfoldable pub typedIf : Bool → ℕ → ℕ → ℕ → Call
+typedIf true byte carrier outbox = Typed byte (eqb carrier 1) outbox
+typedIf false byte carrier outbox = Other
+
+unfoldable pub typedCall : ℕ → ℕ → ℕ → Call
+typedCall byte carrier outbox = typedIf (leb byte 255 && (leb carrier 1 && leb outbox 16)) byte carrier outbox
+
+-- W,ns,carrier: nanoseconds of 64 bits
+unfoldable pub lapseIf : Bool → ℕ → ℕ → Call
+lapseIf true ns carrier = Lapse ns (eqb carrier 1)
+lapseIf false ns carrier = Other
+
+unfoldable pub lapseCall : ℕ → ℕ → Call
+lapseCall ns carrier = lapseIf (ltb ns (2 ^ 64) && leb carrier 1) ns carrier
+
+-- D alone; R or F and one number; T or W and two, with an outbox of 16 for T; in `tap --ext` T and three
+unfoldable pub bareCall : Bool → Call
+bareCall true = ForcedData
+bareCall false = Other
+
+unfoldable pub oneCall : Bool → Bool → Bool → ℕ → Call
+oneCall true isF extended n = rateCall n
+oneCall false true extended n = fillCall extended n
+oneCall false false extended n = Other
+
+unfoldable pub twoCall : Bool → Bool → ℕ → ℕ → Call
+twoCall true isW n m = typedCall n m 16
+twoCall false true n m = lapseCall n m
+twoCall false false n m = Other
+
+unfoldable pub threeCall : Bool → ℕ → ℕ → ℕ → Call
+threeCall true n m o = typedCall n m o
+threeCall false n m o = Other
+
+unfoldable pub numbersCall : Bool → ℕ → List ℕ → Call
+numbersCall extended letter [] = bareCall (is "D" letter)
+numbersCall extended letter (n ∷ []) = oneCall (is "R" letter) (is "F" letter) extended n
+numbersCall extended letter (n ∷ m ∷ []) = twoCall (is "T" letter) (is "W" letter) n m
+numbersCall extended letter (n ∷ m ∷ o ∷ []) = threeCall (extended && is "T" letter) n m o
+numbersCall extended letter (n ∷ m ∷ o ∷ p ∷ ns) = Other
+
+unfoldable pub letterCall : Bool → ℕ → Option (List ℕ) → Call
+letterCall extended letter none = Other
+letterCall extended letter (some ns) = numbersCall extended letter ns
+
+-- the first field is one letter, and the others are its numbers
+unfoldable pub fieldsCall : Bool → List ℕ → List (List ℕ) → Call
+fieldsCall extended [] fs = Other
+fieldsCall extended (letter ∷ []) fs = letterCall extended letter (numbersOf fs)
+fieldsCall extended (letter ∷ b ∷ bs) fs = Other
+
+unfoldable pub callOf : Bool → List ℕ → Call
+callOf extended line = fieldsCall extended (fieldsOf line .first) (fieldsOf line .later)

@@ -1,0 +1,5 @@
+-- Definitions that the contracts cite.
+pub mod Ascii
+pub mod Text
+pub mod Digits
+pub mod Seconds
