@@ -1,3 +1,4 @@
 pub mod Prefix
 pub mod Ranges
 pub mod Cueing
+pub mod Unchanged
