@@ -2,3 +2,4 @@ pub mod Prefix
 pub mod Ranges
 pub mod Cueing
 pub mod Unchanged
+pub mod Cases
