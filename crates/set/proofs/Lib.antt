@@ -1,3 +1,5 @@
 pub mod Prefix
 pub mod Ranges
 pub mod Cueing
+pub mod Unchanged
+pub mod Cases
