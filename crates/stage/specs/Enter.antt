@@ -3,7 +3,6 @@ use Prim.Native.Nat.{ℕ}
 use mathlib.Core.Bool.{true}
 use mathlib.Core.List.{List}
 use lib.ListN.{getD}
-use lib.Ieee.{Float}
 use Rattle.math.specs.Float.{ofNat, one}
 use Rattle.nco.specs.declared.Nco.{Nco}
 use Rattle.nco.specs.Nco.{freshNco}

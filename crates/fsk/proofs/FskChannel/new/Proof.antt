@@ -3,12 +3,6 @@ use borrow.Author.Needs.{needs}
 use Rattle.fsk.specs.Channel.{freshChannel}
 use Rattle.fsk.proofs.FskChannel.new.Statement.{statement}
 use Rattle.fsk.proofs.FskChannel.new.Tie as tie
-use Rattle.fsk.proofs.FskChannel.new.Reads as reads
-use Rattle.fsk.proofs.FskChannel.new.Lts as lts
-use Rattle.frame.proofs.payload_bit.Reads as payload-bit-reads
-use Rattle.fsk.proofs.tone.Reads as tone-reads
-use Rattle.nco.proofs.Nco.new.Reads as new-reads
-use Rattle.schedule.proofs.symbol_step.Reads as symbol-step-reads
 
 payload-bit-requires : tie.Need-payload-bit-requires
 payload-bit-requires c κs = search needs

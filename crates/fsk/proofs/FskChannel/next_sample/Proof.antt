@@ -3,14 +3,6 @@ use borrow.Author.Needs.{needs}
 use Rattle.fsk.specs.Channel.{nextChannel}
 use Rattle.fsk.proofs.FskChannel.next_sample.Statement.{statement}
 use Rattle.fsk.proofs.FskChannel.next_sample.Tie as tie
-use Rattle.fsk.proofs.FskChannel.next_sample.Reads as reads
-use Rattle.fsk.proofs.FskChannel.next_sample.Lts as lts
-use Rattle.frame.proofs.payload_bit.Reads as payload-bit-reads
-use Rattle.fsk.proofs.tone.Reads as tone-reads
-use Rattle.nco.proofs.Nco.next.Reads as next-reads
-use Rattle.nco.proofs.Nco.set_freq.Reads as set-freq-reads
-use Rattle.schedule.proofs.one_more.Reads as one-more-reads
-use Rattle.schedule.proofs.tick.Reads as tick-reads
 
 next-requires : tie.Need-next-requires
 next-requires c κs = search needs
