@@ -1,7 +1,7 @@
 -- The digits that a dial line leaves in a session: at most 76, and as many as are said. Assumes nothing.
 use Prim.Native.Nat.{ℕ, _≤_}
 use native.Mathlib.Omega.{arith}
-use mathlib.Core.Path.{_≡_, ap, _∙_}
+use mathlib.Core.Path.{_≡_, ap}
 use mathlib.Core.List.{List}
 use lib.ListN.{length, take, length-take}
 use Rattle.keys.specs.Keys.{digitsOf, dialledOf}

@@ -6,7 +6,6 @@ use mathlib.Core.List.{List, []}
 use lib.Dec.{eqb}
 use lib.ListN.{take, replicate}
 use lib.Ieee.{Float, binary32, ofBits}
-use Rattle.keys.specs.declared.Digits.{Digits}
 use Rattle.keys.specs.Keys.{held, dialledOf}
 use Rattle.stage.specs.declared.Stage.{Stage}
 use Rattle.stage.specs.declared.StageState.{StageState}

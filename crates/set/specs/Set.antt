@@ -8,7 +8,6 @@ use lib.ListN.{length}
 use lib.Ieee.{Float}
 use Rattle.ascii.specs.Front.{put}
 use Rattle.reply.specs.declared.Reply.the-variants as reply
-use Rattle.at.specs.declared.AtProcessor.{AtProcessor}
 use Rattle.at.specs.declared.Control.{Control}
 use Rattle.at.specs.declared.Control.the-variants.{Nothing, Dial, Answer, Hangup}
 use Rattle.at.specs.declared.Outcome.{Outcome}

@@ -1,6 +1,5 @@
 -- 01, "When a call is declined": which sets are sound. The state's own ranges, the rate's limits and that all digits are keys are `sound`'s,
 -- the line, the pluses and the down time `at`'s.
-use Prim.Native.Nat.{ℕ}
 use mathlib.Core.Bool.{Bool, _&&_}
 use lib.Dec.{leb}
 use Rattle.at.specs.Processor as processor

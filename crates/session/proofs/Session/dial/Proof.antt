@@ -1,14 +1,9 @@
 -- `Session::dial` meets its contract: the digits are the line's, and the overture for them has the length T. Assumes nothing.
 use mathlib.Core.Path.{_≡_, subst}
 use native.Mathlib.Nat.{sub-zero}
-use mathlib.Core.Path.{_≡_, subst}
 use lib.ListN.{length, take}
 use Rattle.keys.specs.Keys.{dialledOf}
-use mathlib.Core.Path.{_≡_, subst}
-use lib.ListN.{length}
 use Prim.Native.Nat.{ℕ, _≤_}
-use mathlib.Core.Path.{_≡_, subst}
-use lib.ListN.{length}
 use native.Mathlib.Omega.{arith}
 use Rattle.schedule.specs.Length.{total}
 use Rattle.schedule.proofs.Total.{total-bounds}

@@ -2,7 +2,6 @@
 use borrow.Author.Tests.{lt-ltb, le-ltb, eq-eqb, ne-eqb}
 use native.Mathlib.Omega.{arith}
 use Rattle.set.proofs.Ranges.{sound-count, sound-digits}
-use borrow.Author.Tests.{lt-ltb, le-ltb, eq-eqb}
 use borrow.Author.Needs.{needs}
 use Rattle.set.proofs.Set.fill_sound.Statement.{statement}
 use Rattle.set.proofs.Set.fill_sound.Tie as tie

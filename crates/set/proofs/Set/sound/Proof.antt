@@ -4,7 +4,6 @@ use borrow.Author.Tests.{le-leb, lt-leb}
 use mathlib.Core.Path.{_≡_}
 use lib.ListN.{length}
 use native.Mathlib.Omega.{arith}
-use borrow.Author.Tests.{lt-leb}
 use Rattle.set.specs.Sound.{sound}
 use borrow.Author.Needs.{needs}
 use Rattle.set.proofs.Set.sound.Statement.{statement}
