@@ -10,7 +10,7 @@ pub mod page;
 pub mod shown;
 
 // What runs between two bytes of the input.
-pub struct Panel {
+struct Panel {
     set: Set,
     parser: Parser,
     // `tap --ext`: longer fills, and an outbox's length on a T line
@@ -100,7 +100,7 @@ fn closed(p: Panel, samples: &mut [f32], out: &mut [u8]) -> Panel {
     Panel { open: false, ..t }
 }
 
-// A page with little room left is written out: an answer has less than 5000 bytes.
+// The page is written out while it still has room for any answer.
 fn settled(p: Panel, out: &[u8]) -> Panel {
     if p.at > 60000 {
         return flushed(p, out);
