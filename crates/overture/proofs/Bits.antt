@@ -1,8 +1,8 @@
 -- The four stages that send bits, as the writer of bits takes them, and Cj's zeros: what their next sample and state are. By
 -- computation, with Cj's test given. Assumes nothing.
 use Prim.Native.Nat.{ℕ, _≤_, _<_}
-use mathlib.Core.Path.{_≡_, refl, ap, _∙_}
-use mathlib.Core.Bool.{Bool, true}
+use mathlib.Core.Path.{_≡_, refl, ap}
+use mathlib.Core.Bool.{Bool, true, false}
 use mathlib.Core.List.{List}
 use lib.Dec.{leb, ltb}
 use borrow.Author.Tests.{le-leb, lt-leb, lt-ltb, ltb-true}
@@ -11,7 +11,6 @@ use Rattle.frame.specs.Frame.{ciPayload, cmJmPayload, cjPayload, trainingPayloa
 use Rattle.schedule.specs.Time.{samplesIn, oneMore}
 use Rattle.schedule.specs.Length.{cjSilence}
 use Rattle.fsk.specs.declared.FskChannel.{FskChannel}
-use Rattle.fsk.specs.Channel.{nextChannel}
 use Rattle.stage.specs.declared.Stage.the-variants as stage
 use Rattle.stage.specs.declared.StageState.{StageState}
 use Rattle.stage.specs.declared.StageState.the-variants.{Ci, CmJm, Cj, Training}
@@ -69,7 +68,7 @@ module _ (digits : List ℕ) (r : ℕ) where
     kept = λ f h. lt-ltb _ 60 h;
   }
     where
-      left : (f : FskChannel) → ltb (f .done) 60 ≡ true → leb 60 (f .done) ≡ mathlib.Core.Bool.false
+      left : (f : FskChannel) → ltb (f .done) 60 ≡ true → leb 60 (f .done) ≡ false
       left f e = lt-leb 60 (f .done) (ltb-true _ _ e)
 
   -- Cj's zeros

@@ -1,9 +1,8 @@
 -- `read` meets its contract: the invariant is `Filling`; what a writer leaves of the part lent to it comes back by `fill-again`. Assumes nothing.
-use native.Mathlib.Omega.{arith}
-use Rattle.overture.proofs.Writing.{Filling, fill-start, fill-again, fill-long, fill-buffer, fill-state, fill-shown, fits-in, moves}
 use Prim.Native.Nat.{_-_}
 use lib.ListN.{length}
-use Rattle.overture.proofs.Writing.{Filling, fill-start}
+use native.Mathlib.Omega.{arith}
+use Rattle.overture.proofs.Writing.{Filling, fill-start, fill-again, fill-long, fill-buffer, fill-state, fill-shown, fits-in, moves}
 use borrow.Author.Needs.{needs}
 use Rattle.overture.proofs.read.Statement.{statement}
 use Rattle.overture.proofs.read.Tie as tie

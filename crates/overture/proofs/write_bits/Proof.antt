@@ -1,10 +1,8 @@
 -- `write_bits` meets its contract: the invariant is `Sending`, `Going` for each stage that sends these bits. Assumes nothing.
+use Prim.Native.Nat.{_-_}
 use lib.ListN.{length, length-set}
 use native.Mathlib.Omega.{arith}
 use Rattle.overture.proofs.Sending.{Sending, sending-start, sending-again, sending-ended, sending-full}
-use Prim.Native.Nat.{_-_}
-use lib.ListN.{length}
-use Rattle.overture.proofs.Sending.{Sending, sending-start}
 use borrow.Author.Needs.{needs}
 use Rattle.overture.proofs.write_bits.Statement.{statement}
 use Rattle.overture.proofs.write_bits.Tie as tie

@@ -1,6 +1,4 @@
 -- `write_cj_silence` meets its contract: the invariant is `Going` at the state in hand. Assumes nothing.
-use Rattle.overture.proofs.Bits.{silence-sample, silence-state}
-use Rattle.overture.proofs.Writing.{rest-narrow}
 use Prim.Native.Nat.{_-_}
 use mathlib.Core.Path.{refl}
 use lib.ListN.{length, length-set}
@@ -8,7 +6,8 @@ use borrow.Author.Tests.{le-leb, lt-leb}
 use native.Mathlib.Omega.{arith}
 use Rattle.stage.specs.declared.StageState.the-variants.{Cj}
 use Rattle.stage.specs.Stage.{stageOf, nextStage}
-use Rattle.overture.proofs.Writing.{Going, start, as-long, below, again, ended, full}
+use Rattle.overture.proofs.Writing.{Going, start, as-long, below, again, ended, full, rest-narrow}
+use Rattle.overture.proofs.Bits.{silence-sample, silence-state}
 use borrow.Author.Needs.{needs}
 use Rattle.overture.proofs.write_cj_silence.Statement.{statement}
 use Rattle.overture.proofs.write_cj_silence.Tie as tie

@@ -1,12 +1,11 @@
 -- `write_connected` meets its contract: the invariant is `Going` at `Connected`. Assumes nothing.
-use Rattle.overture.proofs.Writing.{Going, start, as-long, below, again, full, rest-narrow}
 use Prim.Native.Nat.{_-_}
 use mathlib.Core.Path.{refl}
 use lib.ListN.{length}
 use native.Mathlib.Omega.{arith}
 use Rattle.stage.specs.declared.StageState.the-variants.{Connected}
 use Rattle.stage.specs.Next.{sampleNext, stateNext, generateOf, connectedOf}
-use Rattle.overture.proofs.Writing.{Going, start, as-long, below, again, full}
+use Rattle.overture.proofs.Writing.{Going, start, as-long, below, again, full, rest-narrow}
 use borrow.Author.Needs.{needs}
 use Rattle.overture.proofs.write_connected.Statement.{statement}
 use Rattle.overture.proofs.write_connected.Tie as tie

@@ -1,15 +1,13 @@
 -- `write_dial_tone` meets its contract: the invariant is `Going` at the state in hand. Assumes nothing.
+use Prim.Native.Nat.{_-_}
 use mathlib.Core.Path.{refl}
 use lib.ListN.{length, length-set}
 use borrow.Author.Tests.{le-leb, lt-leb}
 use native.Mathlib.Omega.{arith}
+use Rattle.stage.specs.declared.StageState.the-variants.{DialTone}
 use Rattle.stage.specs.Stage.{stageOf, nextStage}
 use Rattle.stage.specs.Next.{sampleNext, stateNext, generateOf, dialToneOf}
 use Rattle.overture.proofs.Writing.{Going, start, as-long, below, again, ended, full}
-use Prim.Native.Nat.{_-_}
-use lib.ListN.{length}
-use Rattle.stage.specs.declared.StageState.the-variants.{DialTone}
-use Rattle.overture.proofs.Writing.{Going, start}
 use borrow.Author.Needs.{needs}
 use Rattle.overture.proofs.write_dial_tone.Statement.{statement}
 use Rattle.overture.proofs.write_dial_tone.Tie as tie

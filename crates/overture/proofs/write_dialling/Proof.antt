@@ -1,13 +1,11 @@
 -- `write_dialling` meets its contract: the invariant is `Going` at what is dialled. Assumes nothing.
+use Prim.Native.Nat.{_-_}
 use mathlib.Core.Path.{refl}
 use lib.ListN.{length, length-set}
 use native.Mathlib.Omega.{arith}
-use Rattle.overture.proofs.Writing.{Going, start, as-long, below, again, ended, full}
-use Prim.Native.Nat.{_-_}
-use lib.ListN.{length}
 use Rattle.stage.specs.Stage.{stageOf, nextStage}
 use Rattle.stage.specs.Next.{sampleNext, stateNext, generateOf, diallingOf, dialState}
-use Rattle.overture.proofs.Writing.{Going, start}
+use Rattle.overture.proofs.Writing.{Going, start, as-long, below, again, ended, full}
 use borrow.Author.Needs.{needs}
 use Rattle.overture.proofs.write_dialling.Statement.{statement}
 use Rattle.overture.proofs.write_dialling.Tie as tie
