@@ -3,3 +3,5 @@ pub mod Ranges
 pub mod Cueing
 pub mod Unchanged
 pub mod Cases
+pub mod Counted
+pub mod Kept
