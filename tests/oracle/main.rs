@@ -9,47 +9,13 @@
 // The Rust is compiled as it is; what 01 leaves out of it is never called.
 #![allow(dead_code)]
 
-extern crate alloc;
+include!("rust.rs");
 
-mod at;
-mod frame;
-mod nco;
-mod overture;
-#[path = "session.rs"]
-mod rust_session;
-
-mod left_out;
 mod lines;
-mod set;
-#[path = "stand_in.rs"]
-mod session;
 
-use left_out::{link, rx, tx};
 use lines::{read_line, Call};
 use set::{Answer, Set};
 use std::io::{self, BufRead, BufReader, BufWriter, Write};
-
-pub const VERSION: &str = "1.0.0";
-pub const BAUD: f64 = 300.0;
-
-#[derive(Clone, Copy)]
-pub enum Role {
-    Originate,
-    Answer,
-}
-
-#[derive(Clone, Copy)]
-pub enum Duplex {
-    Full,
-    HalfPingPong,
-}
-
-#[derive(Clone, Copy)]
-pub struct Config {
-    pub sample_rate: u32,
-    pub role: Role,
-    pub duplex: Duplex,
-}
 
 /// What a buffer holds before its fill, so that a declined one can be told.
 const UNTOUCHED: u32 = 0x3F9D_70A4;

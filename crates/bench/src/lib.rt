@@ -1,0 +1,154 @@
+// What the benchmark times, for tests/bench to link. No export holds a set between two calls, so
+// each makes a set, dials, plays up to a sample, and then does one thing many times over.
+use set::Set;
+ghost use Prim.Native.Nat.{_<_, _≤_};
+
+// A set at the rate that dialled the digits.
+fn dialled(rate: u32, digits: &[u8]) -> Set {
+    let made = Set::new(rate);
+    let set = typed(typed(made.set, b"ATDT"), digits);
+    typed(set, b"\r")
+}
+
+fn typed(set: Set, bytes: &[u8]) -> Set {
+    let mut s = set;
+    let mut outbox = [0u8; 4];
+    let mut i: usize = 0;
+    while i < bytes.len() {
+        let t = s.feed(bytes[i], false, &mut outbox);
+        let next = t.set;
+        s = next;
+        i += 1;
+    }
+    s
+}
+
+fn least(a: usize, b: usize) -> usize
+    requires { ⌜ (0 < a) × (0 < b) ⌝ }
+    ensures { λ r. ⌜ (0 < r) × (r ≤ a) × (r ≤ b) ⌝ }
+{
+    if a < b {
+        return a;
+    }
+    b
+}
+
+// The whole of out, in fills of at most part samples.
+fn filled(set: Set, part: usize, out: &mut [f32]) -> Set {
+    let mut s = set;
+    if part < 1 {
+        return s;
+    }
+    let mut at: usize = 0;
+    while at < out.len() {
+        let left = out.len() - at;
+        let end = at + least(left, part);
+        let f = s.process_out(&mut out[at..end]);
+        let next = f.set;
+        s = next;
+        at = end;
+    }
+    s
+}
+
+fn skipped(set: Set, part: usize) -> Set
+    requires { ⌜ part ≤ 4096 ⌝ }
+{
+    let mut scratch = [0.0f32; 4096];
+    let from: usize = 0;
+    let f = set.process_out(&mut scratch[from..part]);
+    f.set
+}
+
+// A set that dialled the digits and played skip samples.
+fn played(rate: u32, digits: &[u8], skip: usize) -> Set {
+    let mut s = dialled(rate, digits);
+    let mut left = skip;
+    while left > 0 {
+        let part = least(left, 4096);
+        s = skipped(s, part);
+        left -= part;
+    }
+    s
+}
+
+// Fills out, turns times from the same set; answers m after the last.
+#[no_mangle]
+pub extern "C" fn bench_fills(
+    rate: u32,
+    digits: &[u8],
+    skip: usize,
+    part: usize,
+    turns: u64,
+    out: &mut [f32],
+) -> u32 {
+    let set = played(rate, digits, skip);
+    let mut m: u32 = 0;
+    let mut i: u64 = 0;
+    while i < turns {
+        let s = filled(set, part, out);
+        m = s.m();
+        i += 1;
+    }
+    m
+}
+
+fn filled_empty(set: Set) -> Set {
+    let mut none = [0.0f32; 1];
+    let from: usize = 0;
+    let f = set.process_out(&mut none[from..from]);
+    f.set
+}
+
+// Empty fills, each of the set that the one before returned.
+#[no_mangle]
+pub extern "C" fn bench_empty_fills(rate: u32, digits: &[u8], skip: usize, turns: u64) -> u32 {
+    let mut s = played(rate, digits, skip);
+    let mut i: u64 = 0;
+    while i < turns {
+        s = filled_empty(s);
+        i += 1;
+    }
+    s.m()
+}
+
+// Bytes typed in data mode, each into the outbox; answers how many the last one sent.
+#[no_mangle]
+pub extern "C" fn bench_bytes(rate: u32, digits: &[u8], skip: usize, turns: u64) -> u64 {
+    let mut s = played(rate, digits, skip);
+    let mut outbox = [0u8; 4];
+    let mut sent: usize = 0;
+    let mut i: u64 = 0;
+    while i < turns {
+        let t = s.feed(b'A', true, &mut outbox);
+        let next = t.set;
+        sent = t.sent;
+        s = next;
+        i += 1;
+    }
+    sent as u64
+}
+
+fn one_if(b: bool) -> u64
+    ensures { λ r. ⌜ r ≤ 1 ⌝ }
+{
+    if b {
+        return 1;
+    }
+    0
+}
+
+// Soundness, asked of a set whose count is another each time; answers how often it held.
+#[no_mangle]
+pub extern "C" fn bench_sound(rate: u32, digits: &[u8], skip: usize, turns: u64) -> u64 {
+    let mut s = played(rate, digits, skip);
+    let mut held: u64 = 0;
+    let mut i: u64 = 0;
+    while i < turns {
+        let m = (i % 4_000_000) as u32;
+        s.session.m = m;
+        held += one_if(s.sound());
+        i += 1;
+    }
+    held
+}

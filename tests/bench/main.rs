@@ -1,0 +1,281 @@
+//! Times the port's `process_out` and the Rust's in turn, in one process and on the same calls,
+//! and compares every sample's bits. It prints figures and passes no judgement on them.
+//!
+//! bench [ROUNDS]
+
+// The Rust is compiled as it is; what 01 leaves out of it is never called.
+#![allow(dead_code)]
+
+include!(concat!(env!("ORACLE_SRC"), "/rust.rs"));
+
+#[path = "port.rs"]
+mod port;
+
+use port::Start;
+use set::Set;
+use std::hint::black_box;
+
+const DIGITS: &[u8] = b"5551234";
+const RATES: [u32; 3] = [44_100, 48_000, 192_000];
+const BUFFERS: [usize; 3] = [32, 128, 4_096];
+/// How often a call that takes less than the clock can tell is made.
+const CALLS: u64 = 20_000;
+const HEAD: &str = "    Rust     port   ratio";
+/// Stage numbers and what is heard; Cj in its two parts.
+const STAGES: [(usize, &str); 10] = [
+    (1, "click"),
+    (2, "two tones"),
+    (3, "dialling"),
+    (4, "ringback"),
+    (5, "bits (Ci)"),
+    (6, "Ansam"),
+    (7, "bits (CmJm)"),
+    (8, "bits (Cj)"),
+    (8, "rest (Cj's zeros)"),
+    (9, "bits (Training)"),
+];
+
+fn main() {
+    let rounds = match std::env::args().nth(1).map(|word| word.parse::<usize>()) {
+        None => 25,
+        Some(Ok(rounds)) if rounds > 0 => rounds,
+        _ => {
+            eprintln!("usage: bench [ROUNDS]");
+            std::process::exit(2);
+        }
+    };
+    let bench = Bench { rounds };
+    let equal = [bench.overtures(), bench.stages(), bench.lengths(), bench.digits()];
+    bench.calls();
+    if equal.contains(&false) {
+        println!("\nTHE BITS DIFFER");
+        std::process::exit(1);
+    }
+    println!("\nthe bits of all samples above are equal");
+}
+
+/// The Rust where a call begins.
+fn rust_at(start: Start) -> Set {
+    let (_, mut set) = Set::new(start.rate as u128);
+    for &byte in b"ATDT".iter().chain(start.digits).chain(b"\r") {
+        set.feed(byte, false, 4);
+    }
+    let mut scratch = [0.0; 4096];
+    let mut left = start.skip;
+    while left > 0 {
+        let part = left.min(scratch.len());
+        set.process_out(&mut scratch[..part]);
+        left -= part;
+    }
+    set
+}
+
+/// How many samples stages 1 to 9 have, by the stage that the Rust shows after each sample.
+fn stage_lengths(rate: u32, digits: &[u8]) -> [usize; 9] {
+    let mut set = rust_at(Start { rate, digits, skip: 0 });
+    let mut lengths = [0; 9];
+    loop {
+        set.process_out(&mut [0.0]);
+        if set.state() == 3 {
+            return lengths;
+        }
+        lengths[set.stage() as usize - 1] += 1;
+    }
+}
+
+/// The processor's time for some work: what other programs take of it does not count.
+fn nanoseconds(work: impl FnOnce()) -> f64 {
+    let start = thread_time();
+    work();
+    thread_time() - start
+}
+
+#[repr(C)]
+struct Timespec {
+    seconds: i64,
+    nanoseconds: i64,
+}
+
+extern "C" {
+    fn clock_gettime(clock: i32, time: *mut Timespec) -> i32;
+}
+
+fn thread_time() -> f64 {
+    const CLOCK_THREAD_CPUTIME_ID: i32 = 3;
+    let mut time = Timespec { seconds: 0, nanoseconds: 0 };
+    assert_eq!(unsafe { clock_gettime(CLOCK_THREAD_CPUTIME_ID, &mut time) }, 0);
+    time.seconds as f64 * 1e9 + time.nanoseconds as f64
+}
+
+/// ns a sample, and whether both wrote the same bits.
+struct Figures {
+    rust: f64,
+    port: f64,
+    equal: bool,
+}
+
+impl Figures {
+    fn row(&self) -> String {
+        format!("{:>8.2} {:>8.2} {:>7.3}", self.rust, self.port, self.port / self.rust)
+    }
+}
+
+struct Bench {
+    rounds: usize,
+}
+
+impl Bench {
+    /// `samples` samples from a start, in buffers of `length`: the best of the rounds.
+    fn fills(&self, start: Start, samples: usize, length: usize) -> Figures {
+        // The port makes its set in the same call. What that takes is taken off, and after a long
+        // way to the start the part is played many times, so that it is more than what is taken off.
+        let turns = if start.skip == 0 { 1 } else { 1_000_000 / samples + 1 };
+        let mut rust_out = vec![1.0; samples];
+        let mut port_out = vec![2.0; samples];
+        let (mut rust, mut port, mut begun) = (f64::MAX, f64::MAX, f64::MAX);
+        for _ in 0..self.rounds {
+            let mut set = rust_at(start);
+            rust = rust.min(nanoseconds(|| {
+                for part in rust_out.chunks_mut(length) {
+                    set.process_out(part);
+                }
+            }));
+            begun = begun.min(nanoseconds(|| {
+                black_box(start.fills(length, 0, &mut port_out));
+            }));
+            port = port.min(nanoseconds(|| {
+                black_box(start.fills(length, turns as u64, &mut port_out));
+            }));
+        }
+        let equal = rust_out.iter().zip(&port_out).all(|(a, b): (&f32, &f32)| a.to_bits() == b.to_bits());
+        Figures { rust: rust / samples as f64, port: (port - begun) / (samples * turns) as f64, equal }
+    }
+
+    /// Whole overtures.
+    fn overtures(&self) -> bool {
+        println!("whole overtures of {} digits, ns a sample, best of {}", DIGITS.len(), self.rounds);
+        println!("{:>10} {:>10} {HEAD}", "rate", "buffer");
+        let mut equal = true;
+        for rate in RATES {
+            let total = stage_lengths(rate, DIGITS).iter().sum();
+            for length in BUFFERS {
+                let figures = self.fills(Start { rate, digits: DIGITS, skip: 0 }, total, length);
+                println!("{rate:>10} {length:>10} {}", figures.row());
+                equal &= figures.equal;
+            }
+        }
+        equal
+    }
+
+    /// Each stage by itself, and what share of an overture's time it has.
+    fn stages(&self) -> bool {
+        let rate = 48_000;
+        let lengths = stage_lengths(rate, DIGITS);
+        let silence = (0.075 * rate as f64).round() as usize;
+        let total: usize = lengths.iter().sum();
+        println!("\neach stage at {rate} in buffers of 4096, ns a sample");
+        println!("{:<21} {HEAD} {:>8} {:>8}", "", "of Rust", "of port");
+        let mut rows = Vec::new();
+        let mut skip = 0;
+        let mut equal = true;
+        for (stage, name) in STAGES {
+            let samples = match (stage, name) {
+                (8, "rest (Cj's zeros)") => silence,
+                (8, _) => lengths[7] - silence,
+                _ => lengths[stage - 1],
+            };
+            let figures = self.fills(Start { rate, digits: DIGITS, skip }, samples, 4096);
+            equal &= figures.equal;
+            rows.push((stage, name, samples, figures));
+            skip += samples;
+        }
+        assert_eq!(skip, total);
+        let sum = |of: fn(&Figures) -> f64| rows.iter().map(|r| of(&r.3) * r.2 as f64).sum::<f64>();
+        let (rust, port) = (sum(|f| f.rust), sum(|f| f.port));
+        for (stage, name, samples, f) in &rows {
+            let share = |time: f64, whole: f64| 100.0 * time * *samples as f64 / whole;
+            println!("{stage} {name:<19} {} {:>7.1}% {:>7.1}%", f.row(), share(f.rust, rust), share(f.port, port));
+        }
+        equal
+    }
+
+    /// Buffers of every length.
+    fn lengths(&self) -> bool {
+        println!("\nwhole overtures at 48000 by the buffer's length, ns a sample");
+        println!("{:>10} {HEAD}", "buffer");
+        let total = stage_lengths(48_000, DIGITS).iter().sum();
+        let mut equal = true;
+        for power in 0..=16 {
+            let length = 1 << power;
+            let figures = self.fills(Start { rate: 48_000, digits: DIGITS, skip: 0 }, total, length);
+            println!("{length:>10} {}", figures.row());
+            equal &= figures.equal;
+        }
+        equal
+    }
+
+    /// Any number of digits.
+    fn digits(&self) -> bool {
+        println!("\nwhole overtures at 48000 by the number of digits, ns a sample");
+        println!("{:>10} {:>10} {HEAD}", "digits", "buffer");
+        let mut equal = true;
+        for count in [0, 7, 76] {
+            let digits: Vec<u8> = b"5551234*0#ABCD6789".iter().cycle().take(count).copied().collect();
+            let total = stage_lengths(48_000, &digits).iter().sum();
+            for length in BUFFERS {
+                let figures = self.fills(Start { rate: 48_000, digits: &digits, skip: 0 }, total, length);
+                println!("{count:>10} {length:>10} {}", figures.row());
+                equal &= figures.equal;
+            }
+        }
+        equal
+    }
+
+    /// One call of each kind on a set in the middle of Dialling with 76 digits.
+    fn calls(&self) {
+        let digits = [b'7'; 76];
+        let lengths = stage_lengths(48_000, &digits);
+        let skip = lengths[0] + lengths[1] + lengths[2] / 2;
+        let start = Start { rate: 48_000, digits: &digits, skip };
+        println!("\na call on a set in Dialling with 76 digits, ns");
+        println!("{:<21} {:>8} {:>8}", "", "Rust", "port");
+        let rust = self.best(|| {
+            let mut set = rust_at(start);
+            nanoseconds(|| {
+                for _ in 0..CALLS {
+                    black_box(set.feed(b'A', true, 4));
+                }
+            })
+        });
+        let port = self.best_of_port(|turns| start.bytes(turns));
+        println!("{:<21} {rust:>8.1} {port:>8.1}", "a typed byte");
+        let rust = self.best(|| {
+            let mut set = rust_at(start);
+            nanoseconds(|| {
+                for _ in 0..CALLS {
+                    black_box(set.process_out(black_box(&mut [])));
+                }
+            })
+        });
+        let port = self.best_of_port(|turns| start.empty_fills(turns) as u64);
+        println!("{:<21} {rust:>8.1} {port:>8.1}", "an empty fill");
+        assert_eq!(start.sound(CALLS), CALLS);
+        let port = self.best_of_port(|turns| start.sound(turns));
+        println!("{:<21} {:>8} {port:>8.1}", "soundness alone", "-");
+    }
+
+    fn best(&self, mut round: impl FnMut() -> f64) -> f64 {
+        (0..self.rounds).map(|_| round()).fold(f64::MAX, f64::min) / CALLS as f64
+    }
+
+    fn best_of_port(&self, call: impl Fn(u64) -> u64) -> f64 {
+        let time = |turns| {
+            self.best(|| {
+                nanoseconds(|| {
+                    black_box(call(turns));
+                })
+            })
+        };
+        time(CALLS) - time(0)
+    }
+}
