@@ -47,36 +47,54 @@ impl FskChannel {
         }
     }
 
-    pub fn next_sample(self, payload: &[u8]) -> Keyed
-        ensures { λ r. ⌜ (r .sample ≡ channelSample self) × (r .fsk ≡ nextChannel self (now (payload .entry))) ⌝ }
+    // The channel after one sample.
+    pub fn moved(self, payload: &[u8]) -> FskChannel
+        ensures { λ r. ⌜ r ≡ nextChannel self (now (payload .entry)) ⌝ }
     {
         let nco = self.nco;
-        let s = nco.next();
-        let moved = s.nco;
-        let sample = s.sample * FSK_AMPLITUDE;
+        let moved = nco.moved();
         let t = schedule::tick(self.phase, self.step);
         if t.done {
             let k = schedule::one_more(self.done);
             let bit = frame::payload_bit(payload, k as usize);
             let tuned = moved.set_freq(tone(bit));
-            return Keyed {
-                sample,
-                fsk: FskChannel {
-                    nco: tuned,
-                    done: k,
-                    phase: t.phase,
-                    step: self.step,
-                },
-            };
-        }
-        Keyed {
-            sample,
-            fsk: FskChannel {
-                nco: moved,
-                done: self.done,
+            return FskChannel {
+                nco: tuned,
+                done: k,
                 phase: t.phase,
                 step: self.step,
-            },
+            };
         }
+        FskChannel {
+            nco: moved,
+            done: self.done,
+            phase: t.phase,
+            step: self.step,
+        }
+    }
+
+    pub fn next_sample(self, payload: &[u8]) -> Keyed
+        ensures { λ r. ⌜ (r .sample ≡ channelSample self) × (r .fsk ≡ nextChannel self (now (payload .entry))) ⌝ }
+    {
+        let sample = math::sin(self.nco.phase) * FSK_AMPLITUDE;
+        let fsk = self.moved(payload);
+        Keyed { sample, fsk }
+    }
+}
+
+// A sample of each of two channels.
+pub struct KeyedTwice {
+    pub a: f64,
+    pub b: f64,
+}
+
+// What two channels sound like, or one and what it has become: their sines are worked out together.
+pub fn sample_twice(f: FskChannel, g: FskChannel) -> KeyedTwice
+    ensures { λ r. ⌜ (r .a ≡ channelSample f) × (r .b ≡ channelSample g) ⌝ }
+{
+    let s = math::sin_twice(f.nco.phase, g.nco.phase);
+    KeyedTwice {
+        a: s.a * FSK_AMPLITUDE,
+        b: s.b * FSK_AMPLITUDE,
     }
 }

@@ -7,3 +7,4 @@ pub mod Whole
 pub mod Bounds
 pub mod Wrapping
 pub mod Constants
+pub mod Turns

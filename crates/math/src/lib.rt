@@ -98,26 +98,48 @@ pub struct SinPair {
     pub b: f64,
 }
 
-// Two sines with one test for both: their values meet after it, which is where the compiler starts to pair lanes.
-pub fn sin_both(a: f64, b: f64) -> SinPair
+fn in_turn(a: f64, b: f64) -> bool
+    ensures { λ r. ⌜ r ≡ ((le zero a && lt a tau) && (le zero b && lt b tau)) ⌝ }
+{
+    ((a >= 0.0) & (a < TAU)) & ((b >= 0.0) & (b < TAU))
+}
+
+fn full_waves(a: f64, b: f64) -> SinPair
+    ensures { λ r. ⌜ (r .a ≡ fullWave a) × (r .b ≡ fullWave b) ⌝ }
+{
+    SinPair {
+        a: full_wave(a),
+        b: full_wave(b),
+    }
+}
+
+fn sin_rares(a: f64, b: f64) -> SinPair
     ensures { λ r. ⌜ (r .a ≡ sine a) × (r .b ≡ sine b) ⌝ }
 {
-    if a >= 0.0 {
-        if a < TAU {
-            if b >= 0.0 {
-                if b < TAU {
-                    return SinPair {
-                        a: full_wave(a),
-                        b: full_wave(b),
-                    };
-                }
-            }
-        }
-    }
     SinPair {
         a: sin_rare(a),
         b: sin_rare(b),
     }
+}
+
+// Two sines with one test for both: their values meet after it, which is where the compiler starts to pair lanes.
+pub fn sin_both(a: f64, b: f64) -> SinPair
+    ensures { λ r. ⌜ (r .a ≡ sine a) × (r .b ≡ sine b) ⌝ }
+{
+    if in_turn(a, b) {
+        return full_waves(a, b);
+    }
+    sin_rares(a, b)
+}
+
+// The same, for one more caller: with two, the compiler would make a call of it for each pair.
+pub fn sin_twice(a: f64, b: f64) -> SinPair
+    ensures { λ r. ⌜ (r .a ≡ sine a) × (r .b ≡ sine b) ⌝ }
+{
+    if in_turn(a, b) {
+        return full_waves(a, b);
+    }
+    sin_rares(a, b)
 }
 
 fn square_eight_times(p: f64) -> f64

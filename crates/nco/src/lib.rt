@@ -45,18 +45,49 @@ impl Nco {
         }
     }
 
+    // The oscillator after one sample.
+    pub fn moved(self) -> Nco
+        ensures { λ r. ⌜ r ≡ steppedNco self ⌝ }
+    {
+        let p = advance(self.phase, self.step);
+        Nco {
+            phase: p,
+            step: self.step,
+            rate: self.rate,
+        }
+    }
+
     pub fn next(self) -> Stepped
         ensures { λ r. ⌜ (r .sample ≡ sampleOf self) × (r .nco ≡ steppedNco self) ⌝ }
     {
         let v = math::sin(self.phase);
-        let p = advance(self.phase, self.step);
-        Stepped {
-            sample: v,
-            nco: Nco {
-                phase: p,
-                step: self.step,
-                rate: self.rate,
-            },
-        }
+        let nco = self.moved();
+        Stepped { sample: v, nco }
+    }
+}
+
+// Two oscillators after a sample of each.
+pub struct SteppedBoth {
+    pub a: Stepped,
+    pub b: Stepped,
+}
+
+// One sample of each of two oscillators, for a sample that does not add them up: where it does, the compiler pairs the sines of `next`.
+pub fn next_both(a: Nco, b: Nco) -> SteppedBoth
+    ensures { λ r. ⌜ (r .a .sample ≡ sampleOf a) × (r .a .nco ≡ steppedNco a) ⌝ }
+    ensures { λ r. ⌜ (r .b .sample ≡ sampleOf b) × (r .b .nco ≡ steppedNco b) ⌝ }
+{
+    let v = math::sin_both(a.phase, b.phase);
+    let next_a = a.moved();
+    let next_b = b.moved();
+    SteppedBoth {
+        a: Stepped {
+            sample: v.a,
+            nco: next_a,
+        },
+        b: Stepped {
+            sample: v.b,
+            nco: next_b,
+        },
     }
 }

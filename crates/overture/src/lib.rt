@@ -197,13 +197,38 @@ fn write_ansam(carrier: Nco, env: Nco, n: u32, digits: &[u8], rate: u32, out: &m
     }
 }
 
-// Bits, until all are done: the four stages that send some share this loop.
+// Bits, until all are done: the four stages that send some share this loop. It takes two samples a
+// turn, so that their sines share the lanes of one division.
 fn write_bits(fsk: FskChannel, payload: &[u8], total: u32, out: &mut [f32]) -> Sent
     ensures { λ w. ⌜ SentIs fsk (now (payload .entry)) total (now (out .entry)) (now (out .exit)) w ⌝ }
 {
     let mut f = fsk;
     let mut i: usize = 0;
-    while i < out.len() {
+    while out.len() - i > 1 {
+        let g = f.moved(payload);
+        let s = fsk::sample_twice(f, g);
+        out[i] = math::narrow(s.a);
+        i += 1;
+        if g.done >= total {
+            return Sent {
+                fsk: g,
+                written: i,
+                finished: true,
+            };
+        }
+        let h = g.moved(payload);
+        out[i] = math::narrow(s.b);
+        i += 1;
+        if h.done >= total {
+            return Sent {
+                fsk: h,
+                written: i,
+                finished: true,
+            };
+        }
+        f = h;
+    }
+    if i < out.len() {
         let x = f.next_sample(payload);
         let next = x.fsk;
         out[i] = math::narrow(x.sample);

@@ -206,8 +206,9 @@ pub fn dial_step(dial: Dial, n: u32, digits: &[u8], rate: u32) -> Dialled
 pub fn answer_tone(carrier: Nco, env: Nco, sign: f64) -> Mixed
     ensures { λ r. ⌜ r ≡ answerOf carrier env sign ⌝ }
 {
-    let x = carrier.next();
-    let y = env.next();
+    let both = nco::next_both(carrier, env);
+    let x = both.a;
+    let y = both.b;
     let next_carrier = x.nco;
     let next_env = y.nco;
     Mixed {

@@ -1,56 +1,17 @@
--- `FskChannel::next_sample` meets its contract: by whether a bit is done. Assumes nothing.
+-- `FskChannel::next_sample` meets its contract, by what `sin` and `moved` ensure. Assumes nothing.
 use borrow.Author.Needs.{needs}
-use Rattle.fsk.specs.Channel.{nextChannel}
+use borrow.Author.Needs.{needs}
 use Rattle.fsk.proofs.FskChannel.next_sample.Statement.{statement}
 use Rattle.fsk.proofs.FskChannel.next_sample.Tie as tie
 
-next-requires : tie.Need-next-requires
-next-requires c κs = search needs
+sin-requires : tie.Need-sin-requires
+sin-requires c κs = search needs
 
-tick-requires : tie.Need-tick-requires
-tick-requires c κs = search needs
-
-one-more-requires : tie.Need-one-more-requires
-one-more-requires c κs = search needs
-
-cast-payload-bit : tie.Need-cast-payload-bit
-cast-payload-bit c = search needs
-
-payload-bit-requires : tie.Need-payload-bit-requires
-payload-bit-requires c κs = search needs
-
-tone-requires : tie.Need-tone-requires
-tone-requires c κs = search needs
-
-set-freq-requires : tie.Need-set-freq-requires
-set-freq-requires c κs = search needs
+moved-requires : tie.Need-moved-requires
+moved-requires c κs = search needs
 
 returns : tie.Need-returns
-unfolding nextChannel
-returns c =
-    let tick = c .before .before .before .before .before in
-    let next = tick .before .before .before in (
-      rw (next .next .ensures .0),
-      rw (← tick .tick .ensures .1, c .before .before .before .before .if1 .taken, c .set-freq .ensures, c .before .tone .ensures, c .before .before .payload-bit .ensures, c .before .before .before .one-more .ensures, next .next .ensures .1, tick .tick .ensures .0),
-    )
-
-returns-2 : tie.Need-returns-2
-unfolding nextChannel
-returns-2 c =
-    let tick = c .before in
-    let next = tick .before .before .before in
-    (rw (next .next .ensures .0), rw (← tick .tick .ensures .1, c .if1 .left, next .next .ensures .1, tick .tick .ensures .0))
+returns c = (rw (c .before .sin .ensures), c .moved .ensures)
 
 pub next-sample-spec : {M : Type 1} → statement M
-next-sample-spec =
-    tie.close
-    (tie.spec
-    next-requires
-    tick-requires
-    one-more-requires
-    cast-payload-bit
-    payload-bit-requires
-    tone-requires
-    set-freq-requires
-    returns
-    returns-2)
+next-sample-spec = tie.close (tie.spec sin-requires moved-requires returns)
