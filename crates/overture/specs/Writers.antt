@@ -1,11 +1,13 @@
 -- What a stage's writer promises of the part of a buffer that is lent to it, and what the fill does. A writer stops where its stage ends,
 -- so how much it wrote is its own to say.
-use Prim.Native.Nat.{ℕ, _≤_, _<_}
+use Prim.Native.Nat.{ℕ, suc, _≤_, _<_}
 use mathlib.Core.Path.{_≡_}
 use mathlib.Core.Bool.{Bool, true, false}
 use mathlib.Core.List.{List, _++_}
 use lib.ListN.{length, drop}
 use lib.Ieee.{Float}
+use Rattle.nco.specs.declared.Nco.{Nco}
+use Rattle.tones.specs.declared.Mixed.{Mixed}
 use Rattle.fsk.specs.declared.FskChannel.{FskChannel}
 use Rattle.fsk.specs.Channel.{channelSample, nextChannel}
 use Rattle.stage.specs.declared.StageState.{StageState}
@@ -13,6 +15,7 @@ use Rattle.stage.specs.Stage.{stageOf}
 use Rattle.stage.specs.Next.{sampleNext, stateNext}
 use Rattle.overture.specs.declared.Wrote.{Wrote}
 use Rattle.overture.specs.declared.Sent.{Sent}
+use Rattle.overture.specs.declared.Pair.{Pair}
 use Rattle.overture.specs.Iteration.{after, samples}
 
 -- from the state s, over a part that held `was` and now holds `is`
@@ -40,3 +43,15 @@ wroteBits false at past w = record { state = at (w .fsk); written = w .written }
 pub record SentIs (f : FskChannel) (payload : List ℕ) (total : ℕ) (was is : List Float) (w : Sent) : Type 0 where
   pub wrote : (at past : FskChannel → StageState) (ok : FskChannel → Bool) (digits : List ℕ) (r : ℕ) → Sends at past ok payload total digits r → ok f ≡ true
       → WroteIs (at f) digits r was is (wroteBits (w .finished) at past w)
+
+-- Some samples of one stage, each f's of the two oscillators, which become f's with it: after j of them the state is `at` of the two and j.
+-- With the last one the stage may end.
+pub record Sounds (f : Nco → Nco → Mixed) (at : Nco → Nco → ℕ → StageState) (count : ℕ) (digits : List ℕ) (r : ℕ) : Type 0 where
+  pub sample : (x y : Nco) (j : ℕ) → j < count → sampleNext (at x y j) digits r ≡ f x y .sample
+  pub next : (x y : Nco) (j : ℕ) → j < count → stateNext (at x y j) digits r ≡ at (f x y .a) (f x y .b) (suc j)
+  pub stage : (x y u v : Nco) (j : ℕ) → j < count → stageOf (at x y j) ≡ stageOf (at u v 0)
+
+-- what the players promise to each such stage
+pub record PlayedIs (f : Nco → Nco → Mixed) (count : ℕ) (a b : Nco) (was is : List Float) (p : Pair) : Type 0 where
+  pub wrote : (at : Nco → Nco → ℕ → StageState) (digits : List ℕ) (r : ℕ) → Sounds f at count digits r → 0 < count
+      → WroteIs (at a b 0) digits r was is (record { state = at (p .a) (p .b) count; written = count })

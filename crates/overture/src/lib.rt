@@ -12,7 +12,9 @@ ghost use lib.ListN.{length};
 ghost use Rattle.stage.specs.declared.StageState.the-variants.{OffHook, DialTone, Dialling, Ringback, Ci, Ansam, CmJm, Cj, Training, Connected};
 ghost use Rattle.stage.specs.Next.{dialState};
 ghost use Rattle.overture.specs.Iteration.{after, samples, shownAfter};
-ghost use Rattle.overture.specs.Writers.{WroteIs, SentIs};
+ghost use Rattle.tones.specs.Mixed.{soundedOf, answerOf};
+ghost use Rattle.overture.specs.Writers.{WroteIs, SentIs, PlayedIs};
+ghost use mathlib.Core.Bool.{true, false};
 
 // The state after the samples written, and how many they are.
 pub struct Wrote {
@@ -25,6 +27,75 @@ pub struct Sent {
     pub fsk: FskChannel,
     pub written: usize,
     pub finished: bool,
+}
+
+// Two oscillators after the samples played.
+pub struct Pair {
+    pub a: Nco,
+    pub b: Nco,
+}
+
+// Two tones over the part's front.
+fn play_tones(a: Nco, b: Nco, count: usize, out: &mut [f32]) -> Pair
+    requires { ⌜ count ≤ length (now out) ⌝ }
+    ensures { λ p. ⌜ PlayedIs (soundedOf true) count a b (now (out .entry)) (now (out .exit)) p ⌝ }
+{
+    let mut x = a;
+    let mut y = b;
+    let mut i: usize = 0;
+    while i < count {
+        let p = tones::two_tones(x, y);
+        let next_x = p.a;
+        let next_y = p.b;
+        out[i] = math::narrow(p.sample);
+        i += 1;
+        x = next_x;
+        y = next_y;
+    }
+    Pair { a: x, b: y }
+}
+
+// A gap, in which they rest.
+fn play_rest(a: Nco, b: Nco, count: usize, out: &mut [f32]) -> Pair
+    requires { ⌜ count ≤ length (now out) ⌝ }
+    ensures { λ p. ⌜ PlayedIs (soundedOf false) count a b (now (out .entry)) (now (out .exit)) p ⌝ }
+{
+    let mut i: usize = 0;
+    while i < count {
+        out[i] = 0.0;
+        i += 1;
+    }
+    Pair { a, b }
+}
+
+fn play_sounded(on: bool, a: Nco, b: Nco, count: usize, out: &mut [f32]) -> Pair
+    requires { ⌜ count ≤ length (now out) ⌝ }
+    ensures { λ p. ⌜ PlayedIs (soundedOf on) count a b (now (out .entry)) (now (out .exit)) p ⌝ }
+{
+    if on {
+        return play_tones(a, b, count, out);
+    }
+    play_rest(a, b, count, out)
+}
+
+// ANSam at one sign.
+fn play_answer(carrier: Nco, env: Nco, sign: f64, count: usize, out: &mut [f32]) -> Pair
+    requires { ⌜ count ≤ length (now out) ⌝ }
+    ensures { λ p. ⌜ PlayedIs (λ x y. answerOf x y sign) count carrier env (now (out .entry)) (now (out .exit)) p ⌝ }
+{
+    let mut x = carrier;
+    let mut y = env;
+    let mut i: usize = 0;
+    while i < count {
+        let p = tones::answer_tone(x, y, sign);
+        let next_x = p.a;
+        let next_y = p.b;
+        out[i] = math::narrow(p.sample);
+        i += 1;
+        x = next_x;
+        y = next_y;
+    }
+    Pair { a: x, b: y }
 }
 
 fn write_off_hook(rng: u64, n: u32, digits: &[u8], rate: u32, out: &mut [f32]) -> Wrote
@@ -166,26 +237,24 @@ fn write_ansam(carrier: Nco, env: Nco, n: u32, digits: &[u8], rate: u32, out: &m
     ensures { λ w. ⌜ WroteIs (Ansam carrier env n) (now (digits .entry)) rate (now (out .entry)) (now (out .exit)) w ⌝ }
 {
     let end = schedule::stage_samples_for(stage::ANSAM_S, rate);
-    let mut x = carrier;
-    let mut y = env;
-    let mut k = n;
-    let mut i: usize = 0;
-    while i < out.len() {
-        let sign = schedule::reversal_sign(schedule::seconds(k, rate));
-        let p = tones::answer_tone(x, y, sign);
-        let next_x = p.a;
-        let next_y = p.b;
-        out[i] = math::narrow(p.sample);
-        k = schedule::one_more(k);
-        i += 1;
-        if k as u64 >= end {
-            return Wrote {
-                state: stage::enter_state(Stage::CmJm, digits, rate),
-                written: i,
-            };
-        }
-        x = next_x;
-        y = next_y;
+    let room = out.len();
+    if room < 1 {
+        return Wrote {
+            state: StageState::Ansam { carrier, env, n },
+            written: 0,
+        };
+    }
+    let count = schedule::reversal_run(n, rate, schedule::samples_left(n, end, room));
+    let sign = schedule::reversal_sign(schedule::seconds(n, rate));
+    let p = play_answer(carrier, env, sign, count, out);
+    let x = p.a;
+    let y = p.b;
+    let k = schedule::count_on(n, count);
+    if k as u64 >= end {
+        return Wrote {
+            state: stage::enter_state(Stage::CmJm, digits, rate),
+            written: count,
+        };
     }
     Wrote {
         state: StageState::Ansam {
@@ -193,7 +262,7 @@ fn write_ansam(carrier: Nco, env: Nco, n: u32, digits: &[u8], rate: u32, out: &m
             env: y,
             n: k,
         },
-        written: i,
+        written: count,
     }
 }
 

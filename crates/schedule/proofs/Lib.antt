@@ -3,6 +3,7 @@ pub mod Count
 pub mod Samples
 pub mod Units
 pub mod Digits
+pub mod Runs
 pub mod Symbols
 pub mod SymbolPhase
 pub mod First
