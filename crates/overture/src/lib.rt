@@ -153,38 +153,78 @@ fn write_dial_tone(a: Nco, b: Nco, n: u32, digits: &[u8], rate: u32, out: &mut [
     }
 }
 
-fn write_dialling(dial: Dial, n: u32, digits: &[u8], rate: u32, out: &mut [f32]) -> Wrote
+// One sample, with which digit and tone may change and the stage may end.
+fn write_dialled(dial: Dial, n: u32, digits: &[u8], rate: u32, out: &mut [f32]) -> Wrote
     ensures { λ w. ⌜ WroteIs (dialState dial n) (now (digits .entry)) rate (now (out .entry)) (now (out .exit)) w ⌝ }
 {
-    let mut x = dial;
-    let mut k = n;
-    let mut i: usize = 0;
-    while i < out.len() {
-        k = schedule::one_more(k);
-        let d = tones::dial_step(x, k, digits, rate);
-        let next = d.dial;
-        out[i] = math::narrow(d.sample);
-        i += 1;
-        if d.finished {
-            return Wrote {
-                state: stage::enter_state(Stage::Ringback, digits, rate),
-                written: i,
-            };
-        }
-        x = next;
+    let i = dial.digit;
+    let on = dial.tone;
+    let a = dial.a;
+    let b = dial.b;
+    if out.len() < 1 {
+        return Wrote {
+            state: StageState::Dialling {
+                digit_i: i,
+                in_tone: on,
+                a,
+                b,
+                n,
+            },
+            written: 0,
+        };
     }
-    let a = x.a;
-    let b = x.b;
+    let k = schedule::one_more(n);
+    let d = tones::dial_step(dial, k, digits, rate);
+    let x = d.dial;
+    let y = x.a;
+    let z = x.b;
+    out[0] = math::narrow(d.sample);
+    if d.finished {
+        return Wrote {
+            state: stage::enter_state(Stage::Ringback, digits, rate),
+            written: 1,
+        };
+    }
     Wrote {
         state: StageState::Dialling {
             digit_i: x.digit,
             in_tone: x.tone,
-            a,
-            b,
+            a: y,
+            b: z,
             n: k,
         },
-        written: i,
+        written: 1,
     }
+}
+
+// A run of one digit's tone or gap, where one is known.
+fn write_dialling(dial: Dial, n: u32, digits: &[u8], rate: u32, out: &mut [f32]) -> Wrote
+    ensures { λ w. ⌜ WroteIs (dialState dial n) (now (digits .entry)) rate (now (out .entry)) (now (out .exit)) w ⌝ }
+{
+    let i = dial.digit;
+    let on = dial.tone;
+    if i < digits.len() as u64 {
+        let count = schedule::dialling_run(i, on, n, rate, out.len());
+        if count > 0 {
+            let a = dial.a;
+            let b = dial.b;
+            let p = play_sounded(on, a, b, count, out);
+            let x = p.a;
+            let y = p.b;
+            let k = schedule::count_on(n, count);
+            return Wrote {
+                state: StageState::Dialling {
+                    digit_i: i,
+                    in_tone: on,
+                    a: x,
+                    b: y,
+                    n: k,
+                },
+                written: count,
+            };
+        }
+    }
+    write_dialled(dial, n, digits, rate, out)
 }
 
 fn write_ringback(
@@ -199,37 +239,33 @@ fn write_ringback(
     ensures { λ w. ⌜ WroteIs (Ringback a b n ring) (now (digits .entry)) rate (now (out .entry)) (now (out .exit)) w ⌝ }
 {
     let end = schedule::stage_samples_for(stage::RING_STAGE_S, rate);
-    let mut x = a;
-    let mut y = b;
-    let mut k = n;
-    let mut z = ring;
-    let mut i: usize = 0;
-    while i < out.len() {
-        let progress = schedule::ring_progress(schedule::seconds(k, rate));
-        z = progress.ring;
-        let p = tones::sounded(schedule::ringback_gate(progress.time), x, y);
-        let next_x = p.a;
-        let next_y = p.b;
-        out[i] = math::narrow(p.sample);
-        k = schedule::one_more(k);
-        i += 1;
-        if k as u64 >= end {
-            return Wrote {
-                state: stage::enter_state(Stage::Ci, digits, rate),
-                written: i,
-            };
-        }
-        x = next_x;
-        y = next_y;
+    let room = out.len();
+    if room < 1 {
+        return Wrote {
+            state: StageState::Ringback { a, b, n, ring },
+            written: 0,
+        };
+    }
+    let count = schedule::ring_run(n, rate, schedule::samples_left(n, end, room));
+    let progress = schedule::ring_progress(schedule::seconds(n, rate));
+    let p = play_sounded(schedule::ringback_gate(progress.time), a, b, count, out);
+    let x = p.a;
+    let y = p.b;
+    let k = schedule::count_on(n, count);
+    if k as u64 >= end {
+        return Wrote {
+            state: stage::enter_state(Stage::Ci, digits, rate),
+            written: count,
+        };
     }
     Wrote {
         state: StageState::Ringback {
             a: x,
             b: y,
             n: k,
-            ring: z,
+            ring: progress.ring,
         },
-        written: i,
+        written: count,
     }
 }
 

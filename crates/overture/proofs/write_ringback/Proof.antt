@@ -1,116 +1,112 @@
--- `write_ringback` meets its contract: the invariant is `Going` at the state in hand. Assumes nothing.
-use Prim.Native.Nat.{_-_}
+-- `write_ringback` meets its contract: a run in tone or in a gap is played, and with it the stage may end. Assumes nothing.
 use mathlib.Core.Path.{refl}
-use lib.ListN.{length, length-set}
-use borrow.Author.Tests.{le-leb, lt-leb}
+use mathlib.Core.Bool.{true, false}
 use native.Mathlib.Omega.{arith}
-use Rattle.stage.specs.declared.StageState.the-variants.{Ringback}
+use borrow.Author.Tests.{le-leb, lt-leb}
 use Rattle.stage.specs.Stage.{stageOf, nextStage}
-use Rattle.stage.specs.Next.{sampleNext, stateNext, generateOf, ringbackOf}
-use Rattle.overture.proofs.Writing.{Going, start, as-long, below, again, ended, full}
-use Rattle.schedule.proofs.Constants.{four}
+use Rattle.overture.proofs.Writing.{start, full}
+use Rattle.overture.proofs.Sounding.{ringback-ran}
 use borrow.Author.Needs.{needs}
 use Rattle.overture.proofs.write_ringback.Statement.{statement}
 use Rattle.overture.proofs.write_ringback.Tie as tie
 
-abbrev Inv-loop : tie.InvT-loop
-Inv-loop n ring digits rate out₀ end x₀ y₀ k₀ z₀ i₀ out x y k z i = Going digits rate (Ringback x₀ y₀ k₀ z₀) out₀ out (Ringback x y k z) i
-
-abbrev μ-loop : tie.MeasureT-loop
-μ-loop n ring digits rate out₀ end x₀ y₀ k₀ z₀ i₀ out x y k z i = length out₀ - i
-
-stage-samples-for-requires : tie.Need-stage-samples-for-requires Inv-loop μ-loop
+stage-samples-for-requires : tie.Need-stage-samples-for-requires
 stage-samples-for-requires c κs = search needs
 
-loop-holds : tie.Need-loop-holds Inv-loop μ-loop
-loop-holds c = start _ _ _ _
+returns : tie.Need-returns
+returns c = full _ _ _ _ _ _ _ (start _ _ _ _) (omega (arith, c .if1 .taken))
 
-seconds-requires : tie.Need-seconds-requires Inv-loop μ-loop
+samples-left-requires : tie.Need-samples-left-requires
+samples-left-requires c κs = search needs
+
+ring-run-requires : tie.Need-ring-run-requires
+ring-run-requires c κs = search needs
+
+seconds-requires : tie.Need-seconds-requires
 seconds-requires c κs = search needs
 
-ring-progress-requires : tie.Need-ring-progress-requires Inv-loop μ-loop
+ring-progress-requires : tie.Need-ring-progress-requires
 ring-progress-requires c κs = search needs
 
-ringback-gate-requires : tie.Need-ringback-gate-requires Inv-loop μ-loop
+ringback-gate-requires : tie.Need-ringback-gate-requires
 ringback-gate-requires c κs = search needs
 
-sounded-requires : tie.Need-sounded-requires Inv-loop μ-loop
-sounded-requires c κs = search needs
+play-sounded-requires : tie.Need-play-sounded-requires
+play-sounded-requires c κs = search needs
 
-narrow-requires : tie.Need-narrow-requires Inv-loop μ-loop
-narrow-requires c κs = search needs
+count-on-requires : tie.Need-count-on-requires
+count-on-requires c κs = search needs
 
-mul-out : tie.Need-mul-out Inv-loop μ-loop
-mul-out c = let o = c .before .before .before .before .before .before .before in omega (arith, o .loop-test .taken, as-long _ _ _ _ _ _ _ (o .before .loop .inv), o .before .before .before .before .before .good)
+cast-if2 : tie.Need-cast-if2
+cast-if2 c = search needs
 
-slice-write-out : tie.Need-slice-write-out Inv-loop μ-loop
-slice-write-out c = search needs
-
-one-more-requires : tie.Need-one-more-requires Inv-loop μ-loop
-one-more-requires c κs = search needs
-
-add-i : tie.Need-add-i Inv-loop μ-loop
-add-i c = let o = c .before .before .before .before .before .before .before .before in omega (arith, o .loop-test .taken, as-long _ _ _ _ _ _ _ (o .before .loop .inv), o .before .before .before .before .before .good)
-
-cast-if1 : tie.Need-cast-if1 Inv-loop μ-loop
-cast-if1 c = search needs
-
-enter-state-requires : tie.Need-enter-state-requires Inv-loop μ-loop
+enter-state-requires : tie.Need-enter-state-requires
 enter-state-requires c κs = search needs
 
-same-length : tie.Need-same-length Inv-loop μ-loop
-same-length c = let o = c .before .before in simp length-set (as-long _ _ _ _ _ _ _ (o .before .before .before .before .before .before .before .before .before .loop .inv))
+same-length : tie.Need-same-length
+same-length c = search needs
 
-returns : tie.Need-returns Inv-loop μ-loop
-unfolding sampleNext stateNext stageOf nextStage generateOf ringbackOf
-returns c =
-    let o = c .before .before in
-    ended _ _ _ _ _ _ _ (o .before .before .before .before .before .before .before .before .before .loop .inv) (o .before .before .before .before .before .before .before .before .loop-test .taken) _ _
-    (rw (o .before .narrow .ensures, o .before .before .before .before .sounded .ensures, o .before .before .before .before .before .ringback-gate .ensures, o .before .before .before .before .before .before .ring-progress .ensures .1, o .before .before .before .before .before .before .before .seconds .ensures))
-    (rw (c .enter-state .ensures, ← four, ← o .one-more .ensures, ← o .before .before .before .before .before .before .before .before .before .before .stage-samples-for .ensures, le-leb _ _ (c .before .if1 .taken)))
+returns-2 : tie.Need-returns-2
+unfolding stageOf nextStage
+returns-2 c =
+    let k = c .before .before in
+    let o = k .before .before .before .before .before in
+    let g = o .before .before in
+    let s = g .before .before in
+    let l = s .before .before in
+    let e = l .before .before in
+    ringback-ran _ _ _ _ _ _ _ _ (l .samples-left .ensures) (k .count-on .ensures) _ _ _ _ _ _ _ _ _ _ _
+    (e .stage-samples-for .ensures)
+    (s .seconds .ensures)
+    (g .before .ring-progress .ensures .0)
+    (g .before .ring-progress .ensures .1)
+    (g .ringback-gate .ensures)
+    (s .before .ring-run .ensures)
+    (o .play-sounded .ensures)
+    true
+    (le-leb _ _ (c .before .if2 .taken))
+    (c .enter-state .ensures)
 
-loop-less : tie.Need-loop-less Inv-loop μ-loop
-loop-less c =
-    let o = c .before in
-    omega (arith, below _ _ _ _ _ _ _ (o .before .before .before .before .before .before .before .before .before .loop .inv) (o .before .before .before .before .before .before .before .before .loop-test .taken))
+same-length-2 : tie.Need-same-length-2
+same-length-2 c = search needs
 
-loop-again : tie.Need-loop-again Inv-loop μ-loop
-unfolding sampleNext stateNext stageOf generateOf ringbackOf
-loop-again c =
-    let o = c .before in
-    again _ _ _ _ _ _ _ (o .before .before .before .before .before .before .before .before .before .loop .inv) (o .before .before .before .before .before .before .before .before .loop-test .taken) _ _
-    (rw (o .before .narrow .ensures, o .before .before .before .before .sounded .ensures, o .before .before .before .before .before .ringback-gate .ensures, o .before .before .before .before .before .before .ring-progress .ensures .1, o .before .before .before .before .before .before .before .seconds .ensures))
-    (rw (← o .one-more .ensures, ← four, ← o .before .before .before .before .before .before .before .before .before .before .stage-samples-for .ensures, lt-leb _ _ (c .if1 .left), o .before .before .before .before .sounded .ensures, o .before .before .before .before .before .ringback-gate .ensures, o .before .before .before .before .before .before .ring-progress .ensures .0, o .before .before .before .before .before .before .ring-progress .ensures .1, o .before .before .before .before .before .before .before .seconds .ensures))
+returns-3 : tie.Need-returns-3
+unfolding stageOf nextStage
+returns-3 c =
+    let k = c .before in
+    let o = k .before .before .before .before .before in
+    let g = o .before .before in
+    let s = g .before .before in
+    let l = s .before .before in
+    let e = l .before .before in
+    ringback-ran _ _ _ _ _ _ _ _ (l .samples-left .ensures) (k .count-on .ensures) _ _ _ _ _ _ _ _ _ _ _
+    (e .stage-samples-for .ensures)
+    (s .seconds .ensures)
+    (g .before .ring-progress .ensures .0)
+    (g .before .ring-progress .ensures .1)
+    (g .ringback-gate .ensures)
+    (s .before .ring-run .ensures)
+    (o .play-sounded .ensures)
+    false
+    (lt-leb _ _ (c .if2 .left))
     refl
-
-same-length-2 : tie.Need-same-length-2 Inv-loop μ-loop
-same-length-2 c = as-long _ _ _ _ _ _ _ (c .before .loop .inv)
-
-returns-2 : tie.Need-returns-2 Inv-loop μ-loop
-returns-2 c = full _ _ _ _ _ _ _ (c .before .loop .inv) (c .loop-test .left)
 
 pub write-ringback-spec : {M : Type 1} → statement M
 write-ringback-spec =
     tie.close
     (tie.spec
-    Inv-loop
-    μ-loop
     stage-samples-for-requires
-    loop-holds
+    returns
+    samples-left-requires
+    ring-run-requires
     seconds-requires
     ring-progress-requires
     ringback-gate-requires
-    sounded-requires
-    narrow-requires
-    mul-out
-    slice-write-out
-    one-more-requires
-    add-i
-    cast-if1
+    play-sounded-requires
+    count-on-requires
+    cast-if2
     enter-state-requires
     same-length
-    returns
-    loop-less
-    loop-again
+    returns-2
     same-length-2
-    returns-2)
+    returns-3)
