@@ -1,13 +1,10 @@
 -- Where two numbers are both in the turn, S is the full wave of each: by its definition, with the test given. Assumes nothing.
-use mathlib.Core.Path.{_≡_, refl, sym, ap}
-use mathlib.Core.Bool.{Bool, true, false, cond, _&&_, true≢false}
+use mathlib.Core.Path.{_≡_, ap}
+use mathlib.Core.Bool.{Bool, true, cond, _&&_}
 use lib.Ieee.{Float, le, lt}
 use Rattle.math.specs.Float.{zero, tau}
 use Rattle.math.specs.Sine.{fullWave, sine}
-
-both-true : (a b : Bool) → a && b ≡ true → (a ≡ true) × (b ≡ true)
-both-true true b h = (refl, h)
-both-true false b h = absurd (true≢false (sym h))
+use Rattle.math.proofs.Tests.{both-true}
 
 full : (x : Float) → le zero x && lt x tau ≡ true → sine x ≡ fullWave x
 unfolding sine

@@ -1,9 +1,9 @@
 -- What holds while two oscillators play: for each stage that sounds so, what is written so far is the iteration's. Assumes nothing.
-use Prim.Native.Nat.{ℕ, suc, _+_, _≤_, _<_}
+use Prim.Native.Nat.{ℕ, _+_, _≤_, _<_}
 use native.Mathlib.Numerals.{add-one}
 use native.Mathlib.Nat.{le-antisymm}
 use native.Mathlib.Omega.{arith}
-use mathlib.Core.Path.{_≡_, refl, sym, ap, subst, _∙_}
+use mathlib.Core.Path.{_≡_, refl, subst, _∙_}
 use mathlib.Core.List.{List, _++_}
 use lib.ListN.{length, drop, set, length-set}
 use lib.Ieee.{Float}
@@ -13,9 +13,8 @@ use Rattle.tones.specs.declared.Mixed.{Mixed}
 use Rattle.stage.specs.declared.StageState.{StageState}
 use Rattle.stage.specs.Stage.{stageOf}
 use Rattle.stage.specs.Next.{sampleNext, stateNext}
-use Rattle.overture.specs.declared.Pair.{Pair}
 use Rattle.overture.specs.Iteration.{after, samples}
-use Rattle.overture.specs.Writers.{WroteIs, Sounds, PlayedIs}
+use Rattle.overture.specs.Writers.{Sounds, PlayedIs}
 use Rattle.overture.proofs.Writing.{Going, start, ended}
 
 -- `Going`, but for the stage of the state in hand, which may be the next one

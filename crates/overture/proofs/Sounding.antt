@@ -1,7 +1,7 @@
--- Ansam, Ringback and Dialling sound alike over a run of their clocks, and what is then written and left. By their definitions, with the
+-- DialTone, Ansam, Ringback and Dialling sound alike over a run of their clocks, and what is then written and left. By their definitions, with the
 -- clock told by the run. Assumes nothing.
 use Prim.Native.Nat.{ℕ, zero, suc, _≤_, _<_}
-use native.Mathlib.Nat.{lt-of-lt-of-le}
+use native.Mathlib.Nat.{lt-of-lt-of-le, le-of-eq}
 use native.Mathlib.Omega.{arith}
 use mathlib.Core.Path.{_≡_, refl, sym, ap, subst, _∙_}
 use mathlib.Core.Bool.{Bool, true, false, Bool·beq}
@@ -10,7 +10,7 @@ use lib.Dec.{leb}
 use lib.ListN.{length}
 use lib.Ieee.{Float}
 use borrow.Author.Tests.{lt-leb, eq-eqb}
-use Rattle.math.specs.Float.{f64}
+use Rattle.math.specs.Float.{f64, one}
 use Rattle.nco.specs.declared.Nco.{Nco}
 use Rattle.schedule.specs.Time.{timeAt, samplesIn, oneMore}
 use Rattle.schedule.specs.Ansam.{signAt}
@@ -24,9 +24,9 @@ use Rattle.tones.specs.Mixed.{soundedOf, answerOf}
 use Rattle.tones.specs.declared.Dialled.{Dialled}
 use Rattle.tones.specs.Dial.{pairStays, takenOver, dialStepOf}
 use Rattle.stage.specs.declared.StageState.{StageState}
-use Rattle.stage.specs.declared.StageState.the-variants.{Ansam, Ringback, Dialling}
+use Rattle.stage.specs.declared.StageState.the-variants.{DialTone, Ansam, Ringback, Dialling}
 use Rattle.stage.specs.Stage.{stageOf}
-use Rattle.stage.specs.Next.{sampleNext, stateNext, onward, generateOf, ansamOf, ringbackOf, diallingOf, dialState}
+use Rattle.stage.specs.Next.{sampleNext, stateNext, onward, generateOf, dialToneOf, ansamOf, ringbackOf, diallingOf, dialState}
 use Rattle.overture.specs.declared.Pair.{Pair}
 use Rattle.overture.specs.Writers.{WroteIs, Sounds, PlayedIs}
 
@@ -62,6 +62,18 @@ module _ (digits : List ℕ) (r n : ℕ) where
       wrote : (a b : Nco) (was is : List Float) (p : Pair) → PlayedIs f c a b was is p → 0 < c → (x : StageState)
           → x ≡ onward (leb end (counted c n)) (s (p .a) (p .b) c) digits r → WroteIs (s a b 0) digits r was is (record { state = x; written = c })
       wrote a b was is p P some x e = rw (e, ← at-last c some (p .a) (p .b)) (P .wrote atCount digits r sounds some)
+
+  -- ---- DialTone
+  module _ (c : ℕ) (early : (j : ℕ) → suc j < c → counted (suc j) n < samplesIn one r) where
+    abbrev dialToneAt : Nco → Nco → ℕ → StageState
+    dialToneAt x y j = DialTone x y (counted j n)
+
+    dial-tone-wrote : (a b : Nco) (was is : List Float) (p : Pair) → PlayedIs (soundedOf true) c a b was is p → 0 < c → (x : StageState)
+        → x ≡ onward (leb (samplesIn one r) (counted c n)) (DialTone (p .a) (p .b) (counted c n)) digits r
+        → WroteIs (DialTone a b n) digits r was is (record { state = x; written = c })
+    unfolding counted stageOf sampleNext stateNext generateOf dialToneOf
+    dial-tone-wrote a b was is p P some x e =
+        wrote (samplesIn one r) dialToneAt (soundedOf true) c early (λ x y j l. refl) (λ x y j l. refl) (λ x y u v j. refl) a b was is p P some x e
 
   -- ---- Ansam
   module _ (most c : ℕ) (S : OneSign r n most c) (early : (j : ℕ) → suc j < c → counted (suc j) n < samplesIn ansamTime r) where
@@ -169,6 +181,11 @@ module _ (digits : List ℕ) (r n : ℕ) where
 module _ (digits : List ℕ) (r n end room left c k : ℕ) (B : Before n end room left) (ek : k ≡ counted c n) (a b : Nco) (was is : List Float) (p : Pair) (x : StageState) where
   sooner : c ≤ left → (j : ℕ) → suc j < c → counted (suc j) n < end
   sooner h j l = B .early j (lt-of-lt-of-le l h)
+
+  pub dial-tone-ran : end ≡ samplesIn one r → c ≡ left → PlayedIs (soundedOf true) c a b was is p → (t : Bool) → leb end k ≡ t
+      → x ≡ onward t (DialTone (p .a) (p .b) k) digits r → WroteIs (DialTone a b n) digits r was is (record { state = x; written = c })
+  dial-tone-ran ee ec P t et ex =
+      dial-tone-wrote digits r n c (λ j l. rw (← ee) (sooner (le-of-eq ec) j l)) a b was is p P (rw ec (B .some)) x (ex ∙ rw (← et, ek, ee))
 
   pub ansam-ran : (g u : Float) → end ≡ samplesIn (f64 0x4008_0000_0000_0000) r → u ≡ timeAt r n → g ≡ signAt u → OneSign r n left c
       → PlayedIs (λ x y. answerOf x y g) c a b was is p → (t : Bool) → leb end k ≡ t → x ≡ onward t (Ansam (p .a) (p .b) k) digits r

@@ -127,29 +127,27 @@ fn write_dial_tone(a: Nco, b: Nco, n: u32, digits: &[u8], rate: u32, out: &mut [
     ensures { λ w. ⌜ WroteIs (DialTone a b n) (now (digits .entry)) rate (now (out .entry)) (now (out .exit)) w ⌝ }
 {
     let end = schedule::stage_samples_for(stage::DIAL_TONE_S, rate);
-    let mut x = a;
-    let mut y = b;
-    let mut k = n;
-    let mut i: usize = 0;
-    while i < out.len() {
-        let p = tones::two_tones(x, y);
-        let next_x = p.a;
-        let next_y = p.b;
-        out[i] = math::narrow(p.sample);
-        k = schedule::one_more(k);
-        i += 1;
-        if k as u64 >= end {
-            return Wrote {
-                state: stage::enter_state(Stage::Dialling, digits, rate),
-                written: i,
-            };
-        }
-        x = next_x;
-        y = next_y;
+    let room = out.len();
+    if room < 1 {
+        return Wrote {
+            state: StageState::DialTone { a, b, n },
+            written: 0,
+        };
+    }
+    let count = schedule::samples_left(n, end, room);
+    let p = play_tones(a, b, count, out);
+    let x = p.a;
+    let y = p.b;
+    let k = schedule::count_on(n, count);
+    if k as u64 >= end {
+        return Wrote {
+            state: stage::enter_state(Stage::Dialling, digits, rate),
+            written: count,
+        };
     }
     Wrote {
         state: StageState::DialTone { a: x, b: y, n: k },
-        written: i,
+        written: count,
     }
 }
 

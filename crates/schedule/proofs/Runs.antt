@@ -1,19 +1,19 @@
 -- What lies between the ends of a run agrees with them: t never falls as n grows, and neither do t / 0.45, its floor, or t - 3. Rounding
 -- never turns two numbers round, so no error is worked out. Values are in units of 2 ^ -1074, which hold them all. Assumes nothing.
 use mathlib.Core.Path.{_≡_, refl, sym, ap, _∙_, subst}
-use mathlib.Core.Bool.{Bool, true, false, _&&_, _||_, Bool·beq, true≢false}
+use mathlib.Core.Bool.{Bool, true, false, _&&_, Bool·beq, true≢false}
 use Prim.Native.Nat.{ℕ, zero, suc, _+_, _-_, _*_, _/_, _%_, _^_, _≤_, _<_}
-use native.Mathlib.Nat.{le-trans, le-of-eq, le-antisymm, lt-of-lt-of-le, lt-of-le-of-lt, mul-comm, mul-le-mul-right, mul-right-comm, mul-div-le, le-div-iff-mul-le}
+use native.Mathlib.Nat.{le-trans, le-of-eq, le-antisymm, lt-of-le-of-lt, mul-comm, mul-le-mul-right, mul-right-comm, mul-div-le, le-div-iff-mul-le}
 use native.Mathlib.Omega.{arith}
-use lib.Dec.{T, leb, ltb, eqb, eqb→eq, lit<, lit≤, leb→le, le→leb, ltb→lt, lt→ltb}
+use lib.Dec.{T, leb, ltb, eqb, lit<, lit≤, leb→le, le→leb, ltb→lt, lt→ltb}
 use lib.Pow.{pow-pos}
 use lib.Ieee.{Float, binary64, round, le, lt, add, ofBits, ofInt}
 use lib.Ieee.Exact.{HasValue}
 use lib.Ieee.Order.{round-mono}
-use borrow.Author.Tests.{le-leb}
+use borrow.Author.Tests.{eqb-true, leb-true}
 use Rattle.math.specs.Float.{one, ofNat, plus, minus, over}
 use Rattle.math.specs.Whole.{floorOf}
-use Rattle.math.proofs.Tests.{same-test}
+use Rattle.math.proofs.Tests.{same-test, both-true}
 use Rattle.math.proofs.Values.{nat-value, div-by, sub-at, of-le, le-at, lt-at}
 use Rattle.math.proofs.Bounds.{AtMost, at-most, units-at-most}
 use Rattle.math.proofs.Whole.{floor-at}
@@ -81,13 +81,6 @@ beq-eq true false e = absurd (true≢false (sym e))
 beq-eq false true e = absurd (true≢false (sym e))
 beq-eq false false e = refl
 
-both : (a b : Bool) → a && b ≡ true → (a ≡ true) × (b ≡ true)
-both true b h = (refl, h)
-both false b h = absurd (true≢false (sym h))
-
-eqb-eq : (a b : ℕ) → eqb a b ≡ true → a ≡ b
-eqb-eq a b e = eqb→eq a b (subst T (sym e) tt)
-
 ring-same : (a b : Bool) → ringBy a ≡ ringBy b → a ≡ b
 ring-same true true e = refl
 ring-same true false e = absurd (no e)
@@ -115,8 +108,8 @@ tone-between : (u v w : Float) → Ordered u v w → samePart u w ≡ true → r
 unfolding samePart ringTone
 tone-between u v w O e =
     let P = pow-pos 1074 in
-    let h = both (Bool·beq (lt u ringOn) (lt w ringOn)) _ e in
-    let k = both (Bool·beq (le (plus ringOn ringOff) u) (le (plus ringOn ringOff) w)) (Bool·beq (lt u one) (lt w one)) (h .1) in
+    let h = both-true (Bool·beq (lt u ringOn) (lt w ringOn)) _ e in
+    let k = both-true (Bool·beq (le (plus ringOn ringOff) u) (le (plus ringOn ringOff) w)) (Bool·beq (lt u one) (lt w one)) (h .1) in
     let below : (x : Float) (n : ℕ) → HasValue x false n (2 ^ 1074) → lt u x ≡ lt w x → lt v x ≡ lt u x =
     λ x n X s.
     lt-at v x (O .b) n (2 ^ 1074) P (O .b-value) X
@@ -174,7 +167,7 @@ module _ (r : ℕ) (lo : 8000 ≤ r) (hi : r ≤ 192000) where
   sign-between : (n k m : ℕ) → n ≤ k → k ≤ m → m ≤ 2 ^ 32 → sameReversal (timeAt r n) (timeAt r m) ≡ true → signAt (timeAt r k) ≡ signAt (timeAt r n)
   unfolding sameReversal signAt
   sign-between n k m h l M e =
-      let s = eqb-eq (floorOf (over (timeAt r n) reversal)) (floorOf (over (timeAt r m) reversal)) e in
+      let s = eqb-true (floorOf (over (timeAt r n) reversal)) (floorOf (over (timeAt r m) reversal)) e in
       ap (λ (f : ℕ). signBy (eqb (f % 2) 0))
       (le-antisymm (le-trans (reversals-grow k m l M) (le-of-eq (sym s))) (reversals-grow n k h (le-trans l M)))
 
@@ -239,15 +232,15 @@ module _ (r : ℕ) (lo : 8000 ≤ r) (hi : r ≤ 192000) where
         → samePart (ringTimeBy b (timeAt r n)) (ringTimeBy b (timeAt r m)) ≡ true
         → ringTone (ringTimeBy b (timeAt r k)) ≡ ringTone (ringTimeBy b (timeAt r n))
     part-between true x y z e =
-        tone-between _ _ _ (second-order (leb→le C3 _ (subst T (sym x) tt)) (leb→le C3 _ (subst T (sym y) tt)) (leb→le C3 _ (subst T (sym z) tt))) e
+        tone-between _ _ _ (second-order (leb-true C3 _ x) (leb-true C3 _ y) (leb-true C3 _ z)) e
     part-between false x y z e = tone-between _ _ _ first-order e
 
     gate-between : sameGate (timeAt r n) (timeAt r m) ≡ true → (ringAt (timeAt r k) ≡ ringAt (timeAt r n)) × (ringTone (ringTime (timeAt r k)) ≡ ringTone (ringTime (timeAt r n)))
     unfolding sameGate ringAt ringTime
     gate-between e =
-        let h = both (eqb (ringBy (le ringCycle (timeAt r n))) (ringBy (le ringCycle (timeAt r m)))) _ e in
+        let h = both-true (eqb (ringBy (le ringCycle (timeAt r n))) (ringBy (le ringCycle (timeAt r m)))) _ e in
         let ends : leb C3 (time n N .at) ≡ leb C3 (time m M .at) =
-        sym (second-is n N) ∙ ring-same (le ringCycle (timeAt r n)) (le ringCycle (timeAt r m)) (eqb-eq _ _ (h .0)) ∙ second-is m M in
+        sym (second-is n N) ∙ ring-same (le ringCycle (timeAt r n)) (le ringCycle (timeAt r m)) (eqb-true _ _ (h .0)) ∙ second-is m M in
         let mid : leb C3 (time k K .at) ≡ leb C3 (time n N .at) = leb-between (time n N .at) (time k K .at) (time m M .at) C3 (time-grows n k h₀ K) (time-grows k m l M) ends in
         let here : le ringCycle (timeAt r k) ≡ le ringCycle (timeAt r n) = second-is k K ∙ mid ∙ sym (second-is n N) in (
           ap ringBy here,
@@ -301,13 +294,10 @@ pub record Limits (r n most : ℕ) : Type 0 where
 
 pub limits : (r n most : ℕ) → (leb 8000 r && leb r 192000) && (leb n 0x4000_0000 && leb most 0x4000_0000) ≡ true → Limits r n most
 limits r n most e =
-    let h = both (leb 8000 r && leb r 192000) (leb n 0x4000_0000 && leb most 0x4000_0000) e in
-    let x = both (leb 8000 r) (leb r 192000) (h .0) in
-    let y = both (leb n 0x4000_0000) (leb most 0x4000_0000) (h .1) in
-    record { slow = is 8000 r (x .0); fast = is r 192000 (x .1); few = is n 0x4000_0000 (y .0); short = is most 0x4000_0000 (y .1) }
-  where
-    is : (a b : ℕ) → leb a b ≡ true → a ≤ b
-    is a b e = leb→le a b (subst T (sym e) tt)
+    let h = both-true (leb 8000 r && leb r 192000) (leb n 0x4000_0000 && leb most 0x4000_0000) e in
+    let x = both-true (leb 8000 r) (leb r 192000) (h .0) in
+    let y = both-true (leb n 0x4000_0000) (leb most 0x4000_0000) (h .1) in
+    record { slow = leb-true 8000 r (x .0); fast = leb-true r 192000 (x .1); few = leb-true n 0x4000_0000 (y .0); short = leb-true most 0x4000_0000 (y .1) }
 
 -- what is left of a stage
 module _ (n end most : ℕ) (h : 0 < most) where

@@ -1,5 +1,5 @@
 -- A run: some samples in a row over which a clock tells the same. A writer that knows a run works the clock out once for all of it.
-use Prim.Native.Nat.{ℕ, zero, suc, _+_, _≤_, _<_}
+use Prim.Native.Nat.{ℕ, zero, suc, _≤_, _<_}
 use mathlib.Core.Path.{_≡_}
 use mathlib.Core.Bool.{Bool, _&&_, Bool·beq}
 use lib.Dec.{eqb}

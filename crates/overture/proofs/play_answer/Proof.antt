@@ -1,6 +1,5 @@
 -- `play_answer` meets its contract: the invariant is `Playing`. Assumes nothing.
 use Prim.Native.Nat.{_-_}
-use lib.ListN.{length, length-set}
 use native.Mathlib.Omega.{arith}
 use Rattle.tones.specs.Mixed.{answerOf}
 use Rattle.overture.proofs.Playing.{Playing, playing-start, playing-again, playing-full}

@@ -1,7 +1,6 @@
 -- `play_tones` meets its contract: the invariant is `Playing`. Assumes nothing.
 use Prim.Native.Nat.{_-_}
 use mathlib.Core.Bool.{true}
-use lib.ListN.{length, length-set}
 use native.Mathlib.Omega.{arith}
 use Rattle.tones.specs.Mixed.{soundedOf}
 use Rattle.overture.proofs.Playing.{Playing, playing-start, playing-again, playing-full}

@@ -1,6 +1,5 @@
 -- `dialling_run` meets its contract: off the edges, by `in-tone` and `in-gap`; elsewhere it answers none. Assumes nothing.
 use mathlib.Core.Path.{sym, _∙_}
-use native.Mathlib.Omega.{arith}
 use native.Mathlib.Nat.{lt-of-lt-of-le}
 use Rattle.schedule.proofs.Runs.{Limits, limits, one-tone, one-gap, no-key}
 use borrow.Author.Needs.{needs}
