@@ -29,11 +29,12 @@ use Rattle.set.specs.declared.Forced as forced-answer
 use Rattle.set.specs.declared.Filled as filled-answer
 use Rattle.set.specs.Refusals.{refusalNumber}
 use Rattle.set.specs.Set as set
-use Rattle.set.proofs.Unchanged.{Refused, typing-declined, lapse-declined, forced-declined, fill-declined}
-use Rattle.claim.specs.Book.{Call, typing, time, forcing, filling, Book, blank, overture, lengthOf, typingRefusal, fillRefusal, declinedWith, entered}
+use Rattle.set.proofs.Unchanged.{Refused}
+use Rattle.set.specs.Book.{Call, typing, time, forcing, filling, Book, blank, overture, lengthOf, typingRefusal, fillRefusal, declinedWith, entered}
 use Rattle.claim.specs.Trace.{Event, typed, lapsed, forced, filled, callOf, setOf, refusalOf, leftBy, Did, Trace, setAfter}
 use Rattle.claim.specs.Claim.{Since, notCalled, noted, turn, sinceNext, NeverBack, Unchanged, Reports, Answered, AllAnswered, bookAfter, sinceAfter, bitsOf, Played, Holds, Claim}
-use Rattle.claim.proofs.Reached.{reached, Follows, typing-follows, time-follows, forcing-follows, filling-follows, writing-follows}
+use Rattle.set.proofs.Reached.{reached, Follows}
+use Rattle.set.proofs.Steps.{feed-steps, advance-time-steps, force-data-mode-steps, process-out-steps}
 use Rattle.claim.proofs.Kept.{Course, Kept, kept-sound, typing-kept, time-kept, forcing-kept, filling-kept, blank-kept}
 
 -- 6 is none of the book's numbers
@@ -95,35 +96,17 @@ module _ (r : ℕ) (ok : rateOk r ≡ true) (k : Book) (h : Since) (kept : Kept 
 
   one : (e : Event) → Did (reached r k) e → Step r (reached r k) k h e
   one (typed byte carrier κs out left answer) d =
-      let ok-set = kept-sound r ok k h kept in
-      let told : answer ≡ set.typed (reached r k) byte carrier (length (now out)) = d .1 .0 in
-      let wrote : left ≡ set.outbox (reached r k) byte (now out) = d .1 .1 in
-      steps (typed byte carrier κs out left answer)
-      (rw told (typing-follows r k ok-set byte carrier (length (now out))))
-      (rw (told, wrote) (λ numbered. let q = typing-declined (reached r k) byte carrier (now out) (refused _ numbered) in (q .0, q .3, q .1, q .2)))
-      (typing-kept r ok k h kept byte carrier (length (now out)))
+      let q = feed-steps r k (kept-sound r ok k h kept) byte carrier κs out left answer (d .1) in
+      steps (typed byte carrier κs out left answer) (q .0) (λ numbered. q .1 (refused _ numbered)) (typing-kept r ok k h kept byte carrier (length (now out)))
   one (lapsed ns carrier answer) d =
-      let ok-set = kept-sound r ok k h kept in
-      let told : answer ≡ set.lapsed (reached r k) ns carrier = d .1 in
-      steps (lapsed ns carrier answer)
-      (rw told (time-follows r k ok-set ns carrier))
-      (rw told (λ numbered. lapse-declined (reached r k) ns carrier (refused _ numbered)))
-      (time-kept r ok k h kept ns carrier)
+      let q = advance-time-steps r k (kept-sound r ok k h kept) ns carrier answer (d .1) in
+      steps (lapsed ns carrier answer) (q .0) (λ numbered. q .1 (refused _ numbered)) (time-kept r ok k h kept ns carrier)
   one (forced answer) d =
-      let ok-set = kept-sound r ok k h kept in
-      let told : answer ≡ set.forced (reached r k) = d .1 in
-      steps (forced answer)
-      (rw told (forcing-follows r k ok-set))
-      (rw told (λ numbered. forced-declined (reached r k) (refused _ numbered)))
-      (forcing-kept r ok k h kept)
+      let q = force-data-mode-steps r k (kept-sound r ok k h kept) answer (d .1) in
+      steps (forced answer) (q .0) (λ numbered. q .1 (refused _ numbered)) (forcing-kept r ok k h kept)
   one (filled κs out left answer) d =
-      let ok-set = kept-sound r ok k h kept in
-      let told : answer ≡ set.fill (reached r k) (length (now out)) = d .1 .0 in
-      let wrote : left ≡ set.buffer (reached r k) (now out) = d .1 .1 in
-      steps (filled κs out left answer)
-      (rw told (filling-follows r k ok-set (length (now out))))
-      (rw (told, wrote) (λ numbered. fill-declined (reached r k) (now out) (refused _ numbered)))
-      (filling-kept r ok k h (length (now out)) left (λ playing short. wrote ∙ writing-follows r k ok-set (now out) playing short) kept)
+      let q = process-out-steps r k (kept-sound r ok k h kept) κs out left answer (d .1) in
+      steps (filled κs out left answer) (q .0) (λ numbered. q .1 (refused _ numbered)) (filling-kept r ok k h (length (now out)) left (q .2) kept)
 
 -- the induction
 record Runs (r : ℕ) (s : Set) (k : Book) (h : Since) (es : List Event) : Type 0 where

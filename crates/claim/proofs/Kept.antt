@@ -36,9 +36,9 @@ use Rattle.session.specs.declared.SessionState.{SessionState}
 use Rattle.session.specs.declared.SessionState.the-variants.{Idle, Dialling, Answering, Connected}
 use Rattle.set.specs.Sound.{sound}
 use Rattle.set.proofs.Kept.{after-sound}
-use Rattle.claim.specs.Book.{Call, typing, time, forcing, filling, Book, blank, overture, lengthOf, stageOfSample, typingRefusal, fillRefusal, declinedWith, fedBy, lapsedBy, obeyed, shownBy, lit, filledIn, unlessDeclined, entered}
+use Rattle.set.specs.Book.{Call, typing, time, forcing, filling, Book, blank, overture, lengthOf, stageOfSample, typingRefusal, fillRefusal, declinedWith, fedBy, lapsedBy, obeyed, shownBy, lit, filledIn, unlessDeclined, entered}
 use Rattle.claim.specs.Claim.{Turn, dialLine, ending, fill, other, turnOf, turnUnlessDeclined, turn, Since, notCalled, seen, noted, AllAtMost, NeverBack}
-use Rattle.claim.proofs.Reached.{stageIn, reached}
+use Rattle.set.proofs.Reached.{stageIn, reached}
 
 at-most : (a b : ℕ) (stages : List ℕ) → a ≤ b → AllAtMost a stages → AllAtMost b stages
 at-most a b [] h p = tt

@@ -17,7 +17,7 @@ use Rattle.schedule.specs.Bounds.{TotalBounds}
 use Rattle.passage.specs.Overture.{HasLength}
 use Rattle.set.specs.declared.Set.{Set}
 use Rattle.set.specs.Refusals.{refusalNumber}
-use Rattle.claim.specs.Book.{Call, typing, time, forcing, filling, Book, blank, overture, lengthOf, declinedWith, fedBy, lapsedBy, entered}
+use Rattle.set.specs.Book.{Call, typing, time, forcing, filling, Book, blank, overture, lengthOf, declinedWith, fedBy, lapsedBy, entered}
 use Rattle.claim.specs.Trace.{Event, typed, lapsed, forced, filled, callOf, setOf, refusalOf, leftBy, Trace, setAfter}
 
 -- ---- since the last dial line

@@ -17,7 +17,7 @@ use Rattle.set.proofs.Set.feed.Reads as feed
 use Rattle.set.proofs.Set.advance_time.Reads as advance-time
 use Rattle.set.proofs.Set.force_data_mode.Reads as force-data-mode
 use Rattle.set.proofs.Set.process_out.Reads as process-out
-use Rattle.claim.specs.Book.{Call, typing, time, forcing, filling}
+use Rattle.set.specs.Book.{Call, typing, time, forcing, filling}
 
 -- a call with its arguments, its answer, and of what was lent to it, the outbox or the buffer, what it held before and what it was left with
 pub data Event : Type 0 where

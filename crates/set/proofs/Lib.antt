@@ -5,3 +5,5 @@ pub mod Unchanged
 pub mod Cases
 pub mod Counted
 pub mod Kept
+pub mod Reached
+pub mod Steps

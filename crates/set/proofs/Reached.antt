@@ -24,12 +24,12 @@ use Rattle.session.specs.declared.Session.{Session}
 use Rattle.session.specs.declared.SessionState.{SessionState}
 use Rattle.session.specs.declared.SessionState.the-variants.{Idle, Dialling, Answering, Connected}
 use Rattle.session.specs.Session.{stateNumber, idle, answering, dialling, connects, shownState, shownNumber, showing, filled, written}
 use Rattle.set.specs.declared.Set.{Set}
 use Rattle.set.specs.declared.Refusal.{Refusal}
 use Rattle.set.specs.Refusals.{refusalNumber}
 use Rattle.set.specs.Sound.{sound}
 use Rattle.set.specs.Set.{heard, controlled, typedIf, typed, lapsedIf, lapsed, forcedIf, forced, isUp, fillIf, fill, bufferIf, buffer}
-use Rattle.claim.specs.Book.{Call, typing, time, forcing, filling, Book, stageOfSample, typingRefusal, fillRefusal, declinedWith, fedBy, lapsedBy, obeyed, shownBy, lit, filledIn, unlessDeclined, entered}
+use Rattle.set.specs.Book.{Call, typing, time, forcing, filling, Book, stageOfSample, typingRefusal, fillRefusal, declinedWith, fedBy, lapsedBy, obeyed, shownBy, lit, filledIn, unlessDeclined, entered}
 
 -- where nothing is dialled no samples are to come; else the state is `count` samples into the overture
 abbrev pub stageIn : SessionState → ℕ → List ℕ → ℕ → StageState
