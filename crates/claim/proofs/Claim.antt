@@ -1,16 +1,13 @@
 -- The claim over every list of calls, from what each call's own contract tells. The set is at every point the one that the book stands for; the
 -- book, and what came since the dial line, are carried from the left. Assumes nothing.
-use Prim.Native.Nat.{ℕ, zero, suc, _+_, _≤_, _<_}
-use native.Mathlib.Nat.{lt-irrefl}
+use Prim.Native.Nat.{ℕ, _+_, _≤_, _<_}
 use native.Mathlib.Omega.{arith}
 use mathlib.Core.Path.{_≡_, refl, sym, ap, subst, _∙_}
 use mathlib.Core.Bool.{Bool, true, false, true≢false}
-use mathlib.Core.List.{List, [], _∷_, _++_, map}
+use mathlib.Core.List.{List, [], _∷_, map}
 use mathlib.Core.Logic.{_⊎_, inl, inr, ⊎-elim, _↔_}
-use contract.Lifetimes.{Lfts}
-use denote.Ref.{RefT, now}
+use denote.Ref.{now}
 use lib.Dec.{leb, ltb}
-use lib.Ieee.{Float}
 use lib.ListN.{length}
 use Rattle.schedule.proofs.Total.{total-bounds}
 use Rattle.passage.proofs.Way.{overture-length}
@@ -23,16 +20,12 @@ use Rattle.session.specs.declared.SessionState.the-variants.{Idle, Dialling, An
 use Rattle.session.specs.Session.{stateNumber, idle}
 use Rattle.set.specs.declared.Set.{Set}
 use Rattle.set.specs.declared.Refusal.{Refusal}
-use Rattle.set.specs.declared.Typed as typed-answer
-use Rattle.set.specs.declared.Lapsed as lapsed-answer
-use Rattle.set.specs.declared.Forced as forced-answer
-use Rattle.set.specs.declared.Filled as filled-answer
 use Rattle.set.specs.Refusals.{refusalNumber}
 use Rattle.set.specs.Set as set
 use Rattle.set.proofs.Unchanged.{Refused}
 use Rattle.set.specs.Book.{Call, typing, time, forcing, filling, Book, blank, overture, lengthOf, typingRefusal, fillRefusal, declinedWith, entered}
 use Rattle.claim.specs.Trace.{Event, typed, lapsed, forced, filled, callOf, setOf, refusalOf, leftBy, Did, Trace, setAfter}
-use Rattle.claim.specs.Claim.{Since, notCalled, noted, turn, sinceNext, NeverBack, Unchanged, Reports, Answered, AllAnswered, bookAfter, sinceAfter, bitsOf, Played, Holds, Claim}
+use Rattle.claim.specs.Claim.{Since, notCalled, noted, turn, sinceNext, NeverBack, Unchanged, Reports, Answered, AllAnswered, bookAfter, sinceAfter, bitsOf, Played, Claim}
 use Rattle.set.proofs.Reached.{reached, Follows}
 use Rattle.set.proofs.Steps.{feed-steps, advance-time-steps, force-data-mode-steps, process-out-steps}
 use Rattle.claim.proofs.Kept.{Course, Kept, kept-sound, typing-kept, time-kept, forcing-kept, filling-kept, blank-kept}
@@ -109,10 +102,10 @@ module _ (r : ℕ) (ok : rateOk r ≡ true) (k : Book) (h : Since) (kept : Kept 
       steps (filled κs out left answer) (q .0) (λ numbered. q .1 (refused _ numbered)) (filling-kept r ok k h (length (now out)) left (q .2) kept)
 
 -- the induction
-record Runs (r : ℕ) (s : Set) (k : Book) (h : Since) (es : List Event) : Type 0 where
-  answered : AllAnswered r s k es
-  last : setAfter s es ≡ reached r (bookAfter r k (map callOf es))
-  kept : Kept r (bookAfter r k (map callOf es)) (sinceAfter r k h es)
+pub record Runs (r : ℕ) (s : Set) (k : Book) (h : Since) (es : List Event) : Type 0 where
+  pub answered : AllAnswered r s k es
+  pub last : setAfter s es ≡ reached r (bookAfter r k (map callOf es))
+  pub kept : Kept r (bookAfter r k (map callOf es)) (sinceAfter r k h es)
 
 module _ (r : ℕ) (ok : rateOk r ≡ true) where
   run : (s : Set) (k : Book) (h : Since) → s ≡ reached r k → Kept r k h → (es : List Event) → Trace s es → Runs r s k h es
@@ -128,24 +121,22 @@ module _ (r : ℕ) (ok : rateOk r ≡ true) where
   unfolding stateNumber
   up-exactly Idle digits count shown h c called = absurd (true≢false (sym called ∙ c .1))
   up-exactly Answering digits count shown h c called = absurd (true≢false (sym called ∙ c .1))
-  up-exactly Dialling digits count shown h c called =
-      (
-        λ (e : Dialling ≡ Connected). absurd (differ (ap stateNumber e)),
-        λ (p : (lengthOf digits r < count) ⊎ (h .emptied ≡ true)).
+  up-exactly Dialling digits count shown h c called = (
+    λ (e : Dialling ≡ Connected). absurd (differ (ap stateNumber e)),
+    λ (p : (lengthOf digits r < count) ⊎ (h .emptied ≡ true)).
         absurd (⊎-elim (λ (l : lengthOf digits r < count). past (lengthOf digits r) count l (c .most)) (λ (e : h .emptied ≡ true). true≢false (sym e ∙ c .waiting)) p),
-      )
+  )
     where
       differ : stateNumber Dialling ≡ stateNumber Connected → ⊥
       differ e = omega arith
 
       past : (T count : ℕ) → T < count → count ≤ T → ⊥
       past T count l m = omega arith
-  up-exactly Connected digits count shown h c called =
-      (
-        λ (e : Connected ≡ Connected).
+  up-exactly Connected digits count shown h c called = (
+    λ (e : Connected ≡ Connected).
         ⊎-elim (λ (l : lengthOf digits r < count). inl l) (λ (q : (count ≡ lengthOf digits r) × (h .emptied ≡ true)). inr (q .1)) (c .past),
-        λ (p : (lengthOf digits r < count) ⊎ (h .emptied ≡ true)). refl,
-      )
+    λ (p : (lengthOf digits r < count) ⊎ (h .emptied ≡ true)). refl,
+  )
 
   wrote : (state : SessionState) (digits : List ℕ) (count shown : ℕ) (h : Since) → Course r state digits count shown h → h .called ≡ true
       → (h .joined ≡ overture digits r count) × (count ≡ h .lengths) × NeverBack (h .stages)
@@ -161,11 +152,11 @@ module _ (r : ℕ) (ok : rateOk r ≡ true) where
       let long = overture-length (k .digits) r (rate-low r ok) (rate-high r ok) few in
       let w = wrote (k .state) (k .digits) (k .count) (k .shown) h (kept .course) called in
       record {
-        length = long;
+        ends = long;
         bounds = total-bounds r (rate-low r ok) (rate-high r ok) (length (k .digits)) few;
         samples = ap bitsOf (w .0 ∙ ap (overture (k .digits) r) (sym (told .count)));
         past = λ (j : ℕ) (m : s .session .m ≡ lengthOf (k .digits) r + j).
-        ap bitsOf (w .0 ∙ ap (overture (k .digits) r) (sym (told .count) ∙ m) ∙ samples-past (k .digits) r (lengthOf (k .digits) r) long j);
+            ap bitsOf (w .0 ∙ ap (overture (k .digits) r) (sym (told .count) ∙ m) ∙ samples-past (k .digits) r (lengthOf (k .digits) r) long j);
         count = told .count ∙ w .1;
         stages = w .2;
         up = rw (told .state, told .count) (up-exactly (k .state) (k .digits) (k .count) (k .shown) h (kept .course) called);
@@ -175,13 +166,13 @@ module _ (r : ℕ) (ok : rateOk r ≡ true) where
   unfolding reached idle
   fresh-reached = refl
 
-  holds : (s : Set) → s ≡ set.freshSet r → Claim s
-  holds s e es t = subst (λ (y : Set). Trace y es → Holds y es) (sym e) fresh t
-    where
-      fresh : Trace (set.freshSet r) es → Holds (set.freshSet r) es
-      fresh t =
-          let q = run (set.freshSet r) blank notCalled fresh-reached (blank-kept r) es t in
-          record { answered = q .answered; played = λ called. played _ _ _ (q .last) (q .kept) called }
+  pub fresh-runs : (es : List Event) → Trace (set.freshSet r) es → Runs r (set.freshSet r) blank notCalled es
+  fresh-runs es t = run (set.freshSet r) blank notCalled fresh-reached (blank-kept r) es t
+
+  fresh-holds : Claim (set.freshSet r)
+  fresh-holds es t =
+      let q = fresh-runs es t in
+      record { answered = q .answered; played = λ called. played _ _ _ (q .last) (q .kept) called }
 
 -- a set that creation hands out is fresh at a rate in limits
 pub claim : (rate : ℕ) → Claim (set.made rate .set)
@@ -189,5 +180,5 @@ unfolding set.made rateOk
 claim rate = go (rateOk rate) refl
   where
     go : (t : Bool) → rateOk rate ≡ t → Claim (set.madeIf t rate .set)
-    go true ok = holds rate ok (set.freshSet rate) refl
-    go false ok = holds 8000 refl (set.freshSet 8000) refl
+    go true ok = fresh-holds rate ok
+    go false ok = fresh-holds 8000 refl

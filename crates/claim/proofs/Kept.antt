@@ -3,18 +3,16 @@
 use Prim.Native.Nat.{ℕ, zero, suc, _+_, _≤_, _<_}
 use native.Mathlib.Nat.{add-zero, add-suc, le-refl, le-trans, le-of-suc-le-suc, lt-of-not-le}
 use native.Mathlib.Omega.{arith}
-use mathlib.Core.Path.{_≡_, refl, sym, ap, subst, _∙_}
-use mathlib.Core.Bool.{Bool, true, false, true≢false, _&&_, _||_}
+use mathlib.Core.Path.{_≡_, refl, sym, ap, _∙_}
+use mathlib.Core.Bool.{Bool, true, false, true≢false}
 use mathlib.Core.List.{List, [], _∷_, _++_}
 use mathlib.Core.Logic.{_⊎_, inl, inr}
-use lib.Dec.{leb, ltb, eqb, lit≤}
+use lib.Dec.{leb, ltb, eqb}
 use lib.Ieee.{Float}
 use lib.ListN.{length, take, length-take}
-use borrow.Author.Tests.{eqb-true, eqb-false, ltb-false, eq-eqb, ne-eqb, le-leb}
+use borrow.Author.Tests.{eqb-true, ltb-false, eq-eqb, ne-eqb, le-leb}
 use Rattle.keys.specs.Keys.{allKeys, digitsOf}
 use Rattle.keys.proofs.Line.{all-digits, all-taken, padded-front}
-use Rattle.stage.specs.declared.StageState.{StageState}
-use Rattle.stage.specs.declared.StageState.the-variants as at
 use Rattle.stage.specs.Stage.{stageOf, stageNumber}
 use Rattle.overture.specs.Iteration.{fresh, after, samples}
 use Rattle.overture.proofs.Iteration.{samples-add}
@@ -22,7 +20,7 @@ use Rattle.passage.specs.Overture.{HasLength}
 use Rattle.passage.proofs.Way.{overture-length, total-room}
 use Rattle.passage.proofs.Connected.{connected-exactly}
 use Rattle.passage.proofs.Stages.{never-falls}
-use Rattle.sound.specs.Sound.{rateOk, digitsOk, soundState}
+use Rattle.sound.specs.Sound.{rateOk, digitsOk, stateOk, soundState}
 use Rattle.sound.proofs.Limits.{rate-low, rate-high, digits-few}
 use Rattle.sound.proofs.Held.{enter-held}
 use Rattle.sound.proofs.Enter.{enter-sound}
@@ -36,8 +34,8 @@ use Rattle.session.specs.declared.SessionState.{SessionState}
 use Rattle.session.specs.declared.SessionState.the-variants.{Idle, Dialling, Answering, Connected}
 use Rattle.set.specs.Sound.{sound}
 use Rattle.set.proofs.Kept.{after-sound}
-use Rattle.set.specs.Book.{Call, typing, time, forcing, filling, Book, blank, overture, lengthOf, stageOfSample, typingRefusal, fillRefusal, declinedWith, fedBy, lapsedBy, obeyed, shownBy, lit, filledIn, unlessDeclined, entered}
-use Rattle.claim.specs.Claim.{Turn, dialLine, ending, fill, other, turnOf, turnUnlessDeclined, turn, Since, notCalled, seen, noted, AllAtMost, NeverBack}
+use Rattle.set.specs.Book.{typing, time, forcing, filling, Book, blank, overture, lengthOf, stageOfSample, typingRefusal, fillRefusal, fedBy, lapsedBy, obeyed, shownBy, lit, filledIn, unlessDeclined, entered}
+use Rattle.claim.specs.Claim.{fill, other, turnOf, turnUnlessDeclined, turn, Since, notCalled, noted, AllAtMost, NeverBack}
 use Rattle.set.proofs.Reached.{stageIn, reached}
 
 at-most : (a b : ℕ) (stages : List ℕ) → a ≤ b → AllAtMost a stages → AllAtMost b stages
@@ -92,7 +90,7 @@ module _ (r : ℕ) where
     hi = rate-high r ok
 
     state-sound : (state : SessionState) (digits : List ℕ) (count : ℕ) → digitsOk digits ≡ true → soundState (stageIn state r digits count) digits r ≡ true
-    unfolding soundState Rattle.sound.specs.Sound.stateOk
+    unfolding soundState stateOk
     state-sound Idle digits count keys = rw (ok, keys)
     state-sound Answering digits count keys = rw (ok, keys)
     state-sound Dialling digits count keys = after-sound digits r count (fresh digits r) (enter-held _ digits r) (enter-sound _ digits r ok keys)

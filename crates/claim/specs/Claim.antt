@@ -136,8 +136,8 @@ bitsOf samples = map (toBits binary32) samples
 -- the set s, with m samples of the overture for the digits at the rate r written, T its length
 pub record Played (r : ℕ) (s : Set) (digits : List ℕ) (T : ℕ) (h : Since) : Type 0 where
   -- T is the overture's length, and has its bounds
-  pub length : HasLength digits r T
-  pub bounds : TotalBounds r (lib.ListN.length digits)
+  pub ends : HasLength digits r T
+  pub bounds : TotalBounds r (length digits)
   -- the buffers, joined, are the first m samples of the overture, bit for bit, zeros past T; m is the sum of their lengths
   pub samples : bitsOf (h .joined) ≡ bitsOf (overture digits r (s .session .m))
   pub past : (j : ℕ) → s .session .m ≡ T + j → bitsOf (h .joined) ≡ bitsOf (overture digits r T ++ replicate j (ofBits binary32 0))

@@ -1,8 +1,8 @@
 -- The set that a book stands for, and that each call, by its own contract, takes it to the set that the book's next entry stands for. By cases
 -- of the causes, the control and the state. Assumes nothing.
 use Prim.Native.Nat.{ℕ, zero, suc, _+_}
-use native.Mathlib.Nat.{add-zero, add-suc}
-use mathlib.Core.Path.{_≡_, refl, sym, ap, subst, _∙_}
+use native.Mathlib.Nat.{add-suc}
+use mathlib.Core.Path.{_≡_, refl, sym, ap, _∙_}
 use mathlib.Core.Bool.{Bool, true, false}
 use mathlib.Core.List.{List, []}
 use lib.Dec.{leb, ltb, eqb}
@@ -23,12 +23,12 @@ use Rattle.at.specs.At.{afterAtdt, lineFull}
 use Rattle.session.specs.declared.Session.{Session}
 use Rattle.session.specs.declared.SessionState.{SessionState}
 use Rattle.session.specs.declared.SessionState.the-variants.{Idle, Dialling, Answering, Connected}
-use Rattle.session.specs.Session.{stateNumber, idle, answering, dialling, connects, shownState, shownNumber, showing, filled, written}
+use Rattle.session.specs.Session.{stateNumber, idle, answering, dialling, connects, shownState, shownNumber, filled, written}
 use Rattle.set.specs.declared.Set.{Set}
 use Rattle.set.specs.declared.Refusal.{Refusal}
 use Rattle.set.specs.Refusals.{refusalNumber}
 use Rattle.set.specs.Sound.{sound}
-use Rattle.set.specs.Set.{heard, controlled, typedIf, typed, lapsedIf, lapsed, forcedIf, forced, isUp, fillIf, fill, bufferIf, buffer}
+use Rattle.set.specs.Set.{heard, controlled, typedIf, typed, lapsed, forced, isUp, fillIf, fill, buffer}
 use Rattle.set.specs.Book.{Call, typing, time, forcing, filling, Book, stageOfSample, typingRefusal, fillRefusal, declinedWith, fedBy, lapsedBy, obeyed, shownBy, lit, filledIn, unlessDeclined, entered}
 
 -- where nothing is dialled no samples are to come; else the state is `count` samples into the overture
@@ -98,12 +98,11 @@ same-digits : (digits : List ℕ) (r count b : ℕ)
     → (shownAfter b (after count (fresh digits r) digits r) (take (length digits) (padded digits)) r ≡ shownAfter b (after count (fresh digits r) digits r) digits r)
     × (after b (after count (fresh digits r) digits r) (take (length digits) (padded digits)) r ≡ after (count + b) (fresh digits r) digits r)
     × (samples b (after count (fresh digits r) digits r) (take (length digits) (padded digits)) r ≡ samples b (after count (fresh digits r) digits r) digits r)
-same-digits digits r count b =
-    (
-      ap (λ (ds : List ℕ). shownAfter b (after count (fresh digits r) digits r) ds r) (padded-front digits),
-      ap (λ (ds : List ℕ). after b (after count (fresh digits r) digits r) ds r) (padded-front digits) ∙ sym (after-add digits r count b (fresh digits r)),
-      ap (λ (ds : List ℕ). samples b (after count (fresh digits r) digits r) ds r) (padded-front digits),
-    )
+same-digits digits r count b = (
+  ap (λ (ds : List ℕ). shownAfter b (after count (fresh digits r) digits r) ds r) (padded-front digits),
+  ap (λ (ds : List ℕ). after b (after count (fresh digits r) digits r) ds r) (padded-front digits) ∙ sym (after-add digits r count b (fresh digits r)),
+  ap (λ (ds : List ℕ). samples b (after count (fresh digits r) digits r) ds r) (padded-front digits),
+)
 
 fills : (r : ℕ) (k : Book) (b : ℕ)
     → let digits = k .digits in

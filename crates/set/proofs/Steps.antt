@@ -2,7 +2,7 @@
 -- book's, a declined call changes nothing, and a fill in Dialling writes the overture on. `Learnt` is made by the toolchain from the call's own
 -- `ensures`, so that a contract that says less is refused here. Assumes nothing.
 use Prim.Native.Nat.{ℕ}
-use mathlib.Core.Path.{_≡_, _∙_}
+use mathlib.Core.Path.{_≡_}
 use mathlib.Core.Bool.{Bool, true, false}
 use mathlib.Core.List.{List}
 use contract.Lifetimes.{Lfts}
@@ -35,8 +35,7 @@ module _ (r : ℕ) (k : Book) (ok : sound (reached r k) ≡ true) where
   feed-steps byte carrier κs out left answer d =
       let told : answer ≡ typed (reached r k) byte carrier (length (now out)) = d .0 in
       let wrote : left ≡ outbox (reached r k) byte (now out) = d .1 in
-      rw (told, wrote)
-      (
+      rw (told, wrote) (
         typing-follows r k ok byte carrier (length (now out)),
         λ cause. let q = typing-declined (reached r k) byte carrier (now out) cause in (q .0, q .3, q .1, q .2),
       )

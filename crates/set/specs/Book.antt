@@ -1,7 +1,7 @@
 -- 01, "The list of demand 3": the book, kept from the rate r, the calls and their arguments alone. It never reads the set.
 use Prim.Native.Nat.{ℕ, zero, suc, _+_}
 use mathlib.Core.Bool.{Bool, true, false}
-use mathlib.Core.List.{List, [], _∷_}
+use mathlib.Core.List.{List, []}
 use lib.Dec.{leb, ltb, eqb}
 use lib.Ieee.{Float}
 use lib.ListN.{length, take}
