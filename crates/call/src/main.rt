@@ -1,11 +1,10 @@
 // Makes a call as a theatre's machine does: types the dial line, fills buffers of uneven lengths until
 // the line is up, writes what the house hears to a WAV file, and prints when each stage came.
-mod edges;
+
 mod play;
+mod stages;
 mod table;
 mod words;
-
-use set::Set;
 
 fn main() {
     let count = os::arg_count();
@@ -64,7 +63,7 @@ fn call(digits: &[u8], rate: u32, path: &[u8]) {
     let mut samples = [0.0f32; 4096];
     let mut firsts = [0u32; 11];
     let dialled = play::dial(rate, digits);
-    let up = edges::find_all(dialled, &mut samples, &mut firsts);
+    let up = stages::find_all(dialled, &mut samples, &mut firsts);
     let total = table::between(1, firsts[10]);
     let file = os::open_overwrite(path);
     if file < 0 {

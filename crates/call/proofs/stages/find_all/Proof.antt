@@ -1,10 +1,10 @@
--- `call::edges::find_all` is safe and ends: the measure is the number of turns that are left. Assumes nothing.
+-- `call::stages::find_all` is safe and ends: the measure is the number of turns that are left. Assumes nothing.
 use Prim.Native.Nat.{_-_}
 use mathlib.Core.Path.{_≡_}
 use lib.ListN.{length}
 use borrow.Author.Needs.{needs}
-use Rattle.call.proofs.edges.find_all.Statement.{statement}
-use Rattle.call.proofs.edges.find_all.Tie as tie
+use Rattle.call.proofs.stages.find_all.Statement.{statement}
+use Rattle.call.proofs.stages.find_all.Tie as tie
 
 abbrev Inv-loop : tie.InvT-loop
 Inv-loop samples₀ firsts₀ s₀ turn₀ samples firsts s turn = (length samples ≡ length samples₀) × (length firsts ≡ length firsts₀)

@@ -1,9 +1,9 @@
--- `call::edges::lit` meets its contract: the state's number tells whether the line is up. Assumes nothing.
+-- `edges::lit` meets its contract: the state's number tells whether the line is up. Assumes nothing.
 use borrow.Author.Needs.{needs}
 use borrow.Author.Tests.{eq-eqb, ne-eqb}
-use Rattle.call.specs.Lit.{litIf, litBy}
-use Rattle.call.proofs.edges.lit.Statement.{statement}
-use Rattle.call.proofs.edges.lit.Tie as tie
+use Rattle.edges.specs.Lit.{litIf, litBy}
+use Rattle.edges.proofs.lit.Statement.{statement}
+use Rattle.edges.proofs.lit.Tie as tie
 
 state-requires : tie.Need-state-requires
 state-requires c κs = search needs

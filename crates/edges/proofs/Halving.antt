@@ -6,7 +6,7 @@ use native.Mathlib.Omega.{arith}
 use borrow.Author.Tests.{leb-true, leb-false}
 use lib.Dec.{leb}
 use Rattle.set.specs.declared.Set.{Set}
-use Rattle.call.specs.Lit.{litAfter, FirstLit}
+use Rattle.edges.specs.Lit.{litAfter, FirstLit}
 
 pub record Between (s : Set) (stage n dark bright : ℕ) : Type 0 where
   -- below it, but for an empty buffer

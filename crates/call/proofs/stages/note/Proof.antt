@@ -1,10 +1,10 @@
--- `call::edges::note` is safe and ends: the measure is the number of stages that are left. Assumes nothing.
+-- `call::stages::note` is safe and ends: the measure is the number of stages that are left. Assumes nothing.
 use Prim.Native.Nat.{_-_}
 use mathlib.Core.Path.{_≡_}
 use lib.ListN.{length}
 use borrow.Author.Needs.{needs}
-use Rattle.call.proofs.edges.note.Statement.{statement}
-use Rattle.call.proofs.edges.note.Tie as tie
+use Rattle.call.proofs.stages.note.Statement.{statement}
+use Rattle.call.proofs.stages.note.Tie as tie
 
 abbrev Inv-loop : tie.InvT-loop
 Inv-loop set before after samples₀ firsts₀ stage₀ samples firsts stage = (length samples ≡ length samples₀) × (length firsts ≡ length firsts₀)

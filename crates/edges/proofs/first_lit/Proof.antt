@@ -1,13 +1,13 @@
--- `call::edges::first_lit` meets its contract: the invariant is `Between`, kept by either answer about the middle.
+-- `edges::first_lit` meets its contract: the invariant is `Between`, kept by either answer about the middle.
 -- The measure is what lies between the two ends. Assumes nothing.
 use Prim.Native.Nat.{_-_}
 use mathlib.Core.Path.{_≡_, sym, _∙_}
 use native.Mathlib.Omega.{arith}
 use borrow.Author.Needs.{needs}
 use lib.ListN.{length}
-use Rattle.call.proofs.Halving.{Between, whole, brighter, darker, found}
-use Rattle.call.proofs.edges.first_lit.Statement.{statement}
-use Rattle.call.proofs.edges.first_lit.Tie as tie
+use Rattle.edges.proofs.Halving.{Between, whole, brighter, darker, found}
+use Rattle.edges.proofs.first_lit.Statement.{statement}
+use Rattle.edges.proofs.first_lit.Tie as tie
 
 abbrev Inv-loop : tie.InvT-loop
 Inv-loop set stage samples₀ dark₀ bright₀ samples dark bright = (length samples ≡ length samples₀) × Between set stage (length samples₀) dark bright

@@ -1,10 +1,10 @@
--- `call::edges::lights` meets its contract: the set that the fill returns is the definition's. Assumes nothing.
+-- `edges::lights` meets its contract: the set that the fill returns is the definition's. Assumes nothing.
 use native.Mathlib.Nat.{sub-zero}
 use lib.Seq.{length-take-le}
-use Rattle.call.specs.Lit.{litAfter}
+use Rattle.edges.specs.Lit.{litAfter}
 use borrow.Author.Needs.{needs}
-use Rattle.call.proofs.edges.lights.Statement.{statement}
-use Rattle.call.proofs.edges.lights.Tie as tie
+use Rattle.edges.proofs.lights.Statement.{statement}
+use Rattle.edges.proofs.lights.Tie as tie
 
 mul-process-out : tie.Need-mul-process-out
 mul-process-out c = search needs
