@@ -3,9 +3,9 @@
 // next stage's writer.
 use fsk::FskChannel;
 use nco::Nco;
-use stage::Dial;
 use stage::Stage;
 use stage::StageState;
+use tones::Dial;
 ghost use mathlib.Core.Path.{_≡_};
 ghost use Prim.Native.Nat.{_≤_, _<_};
 ghost use lib.ListN.{length};
@@ -35,8 +35,8 @@ fn write_off_hook(rng: u64, n: u32, digits: &[u8], rate: u32, out: &mut [f32]) -
     let mut k = n;
     let mut i: usize = 0;
     while i < out.len() {
-        x = stage::shift(x);
-        out[i] = math::narrow(stage::click_sample(x, schedule::seconds(k, rate)));
+        x = tones::shift(x);
+        out[i] = math::narrow(tones::click_sample(x, schedule::seconds(k, rate)));
         k = schedule::one_more(k);
         i += 1;
         if k as u64 >= end {
@@ -61,7 +61,7 @@ fn write_dial_tone(a: Nco, b: Nco, n: u32, digits: &[u8], rate: u32, out: &mut [
     let mut k = n;
     let mut i: usize = 0;
     while i < out.len() {
-        let p = stage::two_tones(x, y);
+        let p = tones::two_tones(x, y);
         let next_x = p.a;
         let next_y = p.b;
         out[i] = math::narrow(p.sample);
@@ -90,7 +90,7 @@ fn write_dialling(dial: Dial, n: u32, digits: &[u8], rate: u32, out: &mut [f32])
     let mut i: usize = 0;
     while i < out.len() {
         k = schedule::one_more(k);
-        let d = stage::dial_step(x, k, digits, rate);
+        let d = tones::dial_step(x, k, digits, rate);
         let next = d.dial;
         out[i] = math::narrow(d.sample);
         i += 1;
@@ -136,7 +136,7 @@ fn write_ringback(
     while i < out.len() {
         let progress = schedule::ring_progress(schedule::seconds(k, rate));
         z = progress.ring;
-        let p = stage::sounded(schedule::ringback_gate(progress.time), x, y);
+        let p = tones::sounded(schedule::ringback_gate(progress.time), x, y);
         let next_x = p.a;
         let next_y = p.b;
         out[i] = math::narrow(p.sample);
@@ -172,7 +172,7 @@ fn write_ansam(carrier: Nco, env: Nco, n: u32, digits: &[u8], rate: u32, out: &m
     let mut i: usize = 0;
     while i < out.len() {
         let sign = schedule::reversal_sign(schedule::seconds(k, rate));
-        let p = stage::answer_tone(x, y, sign);
+        let p = tones::answer_tone(x, y, sign);
         let next_x = p.a;
         let next_y = p.b;
         out[i] = math::narrow(p.sample);

@@ -14,15 +14,16 @@ use Rattle.schedule.specs.Ringback.{ringAt, ringTime, ringTone}
 use Rattle.schedule.specs.Length.{clickTime, ringbackTime, ansamTime}
 use Rattle.schedule.proofs.Count.{one-more-is}
 use Rattle.schedule.proofs.Lengths.{click-range, dial-tone-range, ringback-range, ansam-range}
-use Rattle.stage.specs.declared.Mixed.{Mixed}
+use Rattle.tones.specs.declared.Mixed.{Mixed}
 use Rattle.stage.specs.declared.Stage.{Stage}
 use Rattle.stage.specs.declared.Stage.the-variants as stage
 use Rattle.stage.specs.declared.StageState.{StageState}
 use Rattle.stage.specs.declared.StageState.the-variants.{OffHook, DialTone, Ringback, Ansam}
-use Rattle.stage.specs.Samples.{shifted}
 use Rattle.stage.specs.Stage.{nextStage, stageOf}
 use Rattle.stage.specs.Enter.{enterOf}
-use Rattle.stage.specs.Next.{offHookOf, soundedOf, dialToneOf, ringbackOf, answerOf, ansamOf, generateOf}
+use Rattle.stage.specs.Next.{offHookOf, dialToneOf, ringbackOf, ansamOf, generateOf}
+use Rattle.tones.specs.Samples.{shifted}
+use Rattle.tones.specs.Mixed.{soundedOf, answerOf}
 use Rattle.passage.proofs.Lasting.{Passes, Course, passes}
 
 -- one more of a count that no stage's length lets run to the largest

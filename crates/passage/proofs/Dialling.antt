@@ -22,13 +22,15 @@ use Rattle.schedule.specs.Dialling.{digitAt, inTone}
 use Rattle.schedule.specs.Length.{diallingLength}
 use Rattle.schedule.proofs.Samples.{rate-value}
 use Rattle.schedule.proofs.Lengths.{digitAfter, dialling-none, dialling-ends, dialling-range}
-use Rattle.stage.specs.declared.Dial.{Dial}
+use Rattle.tones.specs.declared.Dial.{Dial}
 use Rattle.stage.specs.declared.Stage.the-variants as stage
 use Rattle.stage.specs.declared.StageState.{StageState}
 use Rattle.stage.specs.declared.StageState.the-variants.{Dialling}
 use Rattle.stage.specs.Stage.{nextStage, stageOf}
-use Rattle.stage.specs.Enter.{digitTones, enterOf}
-use Rattle.stage.specs.Next.{soundedOf, pairStays, takenOver, dialledAt, dialStepOf, dialState, diallingOf, generateOf, stateNext}
+use Rattle.stage.specs.Enter.{enterOf}
+use Rattle.stage.specs.Next.{dialState, diallingOf, generateOf, stateNext}
+use Rattle.tones.specs.Mixed.{soundedOf}
+use Rattle.tones.specs.Dial.{digitTones, pairStays, takenOver, dialledAt, dialStepOf}
 use Rattle.overture.specs.Iteration.{after}
 use Rattle.passage.proofs.Lasting.{Lasts, Passes, Course, passes}
 use Rattle.passage.proofs.Counted.{one-more}

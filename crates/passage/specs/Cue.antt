@@ -7,7 +7,7 @@ use Rattle.math.specs.Float.{ofNat}
 use Rattle.nco.specs.declared.Nco.{Nco}
 use Rattle.nco.specs.Nco.{stepOf}
 use Rattle.stage.specs.declared.StageState.the-variants.{Dialling}
-use Rattle.stage.specs.Enter.{digitTones}
+use Rattle.tones.specs.Dial.{digitTones}
 use Rattle.overture.specs.Iteration.{fresh, after}
 
 -- the state that sample m is made from, after the m - 1 before it, is Dialling's, at that digit, in tone, with its key's two frequencies

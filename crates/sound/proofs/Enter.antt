@@ -20,10 +20,11 @@ use Rattle.schedule.specs.Time.{samplesIn}
 use Rattle.schedule.specs.Length.{clickTime, ansamTime}
 use Rattle.schedule.proofs.Lengths.{click-range, dial-tone-range, dialling-range, ringback-range, ansam-range, silence-range}
 use Rattle.fsk.specs.Channel.{freshChannel}
-use Rattle.stage.specs.declared.KeyTones.{KeyTones}
+use Rattle.tones.specs.declared.KeyTones.{KeyTones}
 use Rattle.stage.specs.declared.Stage.{Stage}
 use Rattle.stage.specs.declared.Stage.the-variants as stage
-use Rattle.stage.specs.Enter.{at, tonesFor, digitTones, enterOf}
+use Rattle.stage.specs.Enter.{at, enterOf}
+use Rattle.tones.specs.Dial.{tonesFor, digitTones}
 use Rattle.sound.specs.Sound.{rateOk, digitsOk, ncoOk, digitOk, ringOk, bitsOk, cjOk, stateOk, soundState}
 use Rattle.sound.proofs.Limits.{rate-low, rate-high, digits-few}
 use Rattle.sound.proofs.Parts.{tones-made, dialling-made, ringback-made, bits-made, cj-made}

@@ -18,14 +18,16 @@ use Rattle.schedule.specs.Symbols.{symbolStep, symbolEnds}
 use Rattle.schedule.proofs.SymbolPhase.{next-phase-fits}
 use Rattle.fsk.specs.declared.FskChannel.{FskChannel}
 use Rattle.fsk.specs.Channel.{freshChannel, nextChannel, ncoNext}
-use Rattle.stage.specs.declared.Dial.{Dial}
+use Rattle.tones.specs.declared.Dial.{Dial}
 use Rattle.stage.specs.declared.Stage.{Stage}
 use Rattle.stage.specs.declared.Stage.the-variants as stage
 use Rattle.stage.specs.declared.StageState.{StageState}
 use Rattle.stage.specs.declared.StageState.the-variants.{OffHook, DialTone, Dialling, Ringback, Ci, Ansam, CmJm, Cj, Training, Connected}
 use Rattle.stage.specs.Stage.{stageOf, nextStage}
 use Rattle.stage.specs.Enter.{enterOf}
-use Rattle.stage.specs.Next.{offHookOf, soundedOf, dialToneOf, pairStays, takenOver, dialledBy, dialStepOf, diallingOf, ringbackOf, ciOf, answerOf, ansamOf, cmJmOf, cjAt, cjOf, trainingOf, connectedOf, generateOf, onward, stateNext}
+use Rattle.stage.specs.Next.{offHookOf, dialToneOf, diallingOf, ringbackOf, ciOf, ansamOf, cmJmOf, cjAt, cjOf, trainingOf, connectedOf, generateOf, onward, stateNext}
+use Rattle.tones.specs.Mixed.{soundedOf, answerOf}
+use Rattle.tones.specs.Dial.{pairStays, takenOver, dialledBy, dialStepOf}
 use Rattle.sound.specs.Held.{Double, HeldNco, HeldFsk, Held}
 
 -- ---- oscillators

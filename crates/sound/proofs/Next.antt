@@ -23,11 +23,13 @@ use Rattle.schedule.proofs.Count.{one-more-is}
 use Rattle.schedule.proofs.Lengths.{dialling-range}
 use Rattle.fsk.specs.declared.FskChannel.{FskChannel}
 use Rattle.fsk.specs.Channel.{nextChannel}
-use Rattle.stage.specs.declared.Dial.{Dial}
+use Rattle.tones.specs.declared.Dial.{Dial}
 use Rattle.stage.specs.declared.StageState.{StageState}
 use Rattle.stage.specs.declared.StageState.the-variants.{OffHook, DialTone, Dialling, Ringback, Ci, Ansam, CmJm, Cj, Training, Connected}
 use Rattle.stage.specs.Stage.{stageOf, nextStage}
-use Rattle.stage.specs.Next.{offHookOf, dialToneOf, pairStays, takenOver, dialledBy, dialStepOf, diallingOf, ringbackOf, ciOf, answerOf, ansamOf, cmJmOf, cjAt, cjOf, trainingOf, connectedOf, generateOf, onward, stateNext}
+use Rattle.stage.specs.Next.{offHookOf, dialToneOf, diallingOf, ringbackOf, ciOf, ansamOf, cmJmOf, cjAt, cjOf, trainingOf, connectedOf, generateOf, onward, stateNext}
+use Rattle.tones.specs.Mixed.{answerOf}
+use Rattle.tones.specs.Dial.{pairStays, takenOver, dialledBy, dialStepOf}
 use Rattle.sound.specs.Sound.{rateOk, digitsOk, ncoOk, digitOk, ringOk, diallingOk, bitsOk, cjOk, stateOk, soundState}
 use Rattle.sound.specs.Held.{HeldNco, HeldFsk, Held}
 use Rattle.sound.proofs.Limits.{holds, rate-low, rate-high, digits-few}

@@ -15,7 +15,7 @@ use Rattle.nco.specs.Nco.{inTurn, freshNco, retuned, steppedNco}
 use Rattle.nco.proofs.Phase.{Turning, stepped-turning}
 use Rattle.nco.proofs.Steps.{fresh-turning, retuned-turning}
 use Rattle.schedule.proofs.Samples.{rate-value}
-use Rattle.stage.specs.Next.{soundedOf}
+use Rattle.tones.specs.Mixed.{soundedOf}
 use Rattle.sound.specs.Sound.{ncoOk}
 use Rattle.sound.specs.Held.{Double, HeldNco}
 use Rattle.sound.proofs.Equal.{eq-self, equal}

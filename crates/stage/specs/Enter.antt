@@ -2,16 +2,12 @@
 use Prim.Native.Nat.{ℕ}
 use mathlib.Core.Bool.{true}
 use mathlib.Core.List.{List}
-use lib.ListN.{getD}
-use Rattle.math.specs.Float.{ofNat, one}
+use Rattle.math.specs.Float.{ofNat}
 use Rattle.nco.specs.declared.Nco.{Nco}
 use Rattle.nco.specs.Nco.{freshNco}
 use Rattle.frame.specs.Frame.{ciPayload, cmJmPayload, cjPayload, trainingPayload}
-use Rattle.keys.specs.declared.Tones.{Tones}
-use Rattle.keys.specs.declared.Tones.the-variants.{Key, NoKey}
-use Rattle.keys.specs.Keys.{tonesOf}
 use Rattle.fsk.specs.Channel.{freshChannel}
-use Rattle.stage.specs.declared.KeyTones.{KeyTones}
+use Rattle.tones.specs.Dial.{digitTones}
 use Rattle.stage.specs.declared.Stage.{Stage}
 use Rattle.stage.specs.declared.Stage.the-variants as stage
 use Rattle.stage.specs.declared.StageState.{StageState}
@@ -20,15 +16,6 @@ use Rattle.stage.specs.declared.StageState.the-variants.{OffHook, DialTo
 -- a fresh oscillator at so many hertz, at the rate r
 abbrev pub at : ℕ → ℕ → Nco
 at hertz r = freshNco (ofNat hertz) (ofNat r)
-
--- a key's two frequencies; 1 Hz where there is no key
-abbrev pub tonesFor : Tones → KeyTones
-tonesFor (Key low high) = record { low = low; high = high }
-tonesFor NoKey = record { low = one; high = one }
-
--- those of the digit at position i
-unfoldable pub digitTones : List ℕ → ℕ → KeyTones
-digitTones digits i = tonesFor (tonesOf (getD digits i 0))
 
 -- the state before a stage's first sample
 unfoldable pub enterOf : Stage → List ℕ → ℕ → StageState

@@ -1,4 +1,3 @@
 pub mod Stage
-pub mod Samples
 pub mod Enter
 pub mod Next

@@ -1,30 +1,27 @@
 -- 01, "Stages": the next sample of each stage, the state after it, and whether the stage ends with it. n is the stage's samples so far.
 use Prim.Native.Nat.{ℕ}
-use mathlib.Core.Bool.{Bool, true, false, _&&_, _||_, Bool·beq}
+use mathlib.Core.Bool.{Bool, true, false}
 use mathlib.Core.List.{List}
-use lib.Dec.{leb, eqb}
-use lib.ListN.{length}
+use lib.Dec.{leb}
 use lib.Ieee.{Float}
-use Rattle.math.specs.Float.{zero, one, ofNat}
+use Rattle.math.specs.Float.{zero, one}
 use Rattle.nco.specs.declared.Nco.{Nco}
-use Rattle.nco.specs.Nco.{freshNco, sampleOf, steppedNco}
 use Rattle.frame.specs.Frame.{ciPayload, cmJmPayload, cjPayload, trainingPayload}
 use Rattle.schedule.specs.Time.{timeAt, samplesIn, oneMore}
-use Rattle.schedule.specs.Dialling.{digitAt, inTone}
 use Rattle.schedule.specs.Ringback.{ringAt, ringTime, ringTone}
 use Rattle.schedule.specs.Ansam.{signAt}
 use Rattle.schedule.specs.Length.{clickTime, ringbackTime, ansamTime, cjSilence}
 use Rattle.fsk.specs.declared.FskChannel.{FskChannel}
 use Rattle.fsk.specs.Channel.{channelSample, nextChannel}
-use Rattle.stage.specs.declared.Mixed.{Mixed}
-use Rattle.stage.specs.declared.Dial.{Dial}
-use Rattle.stage.specs.declared.Dialled.{Dialled}
+use Rattle.tones.specs.declared.Dial.{Dial}
+use Rattle.tones.specs.Samples.{shifted, clickSample}
+use Rattle.tones.specs.Mixed.{soundedOf, answerOf}
+use Rattle.tones.specs.Dial.{dialStepOf}
 use Rattle.stage.specs.declared.Generated.{Generated}
 use Rattle.stage.specs.declared.StageState.{StageState}
 use Rattle.stage.specs.declared.StageState.the-variants.{OffHook, DialTone, Dialling, Ringback, Ci, Ansam, CmJm, Cj, Training, Connected}
 use Rattle.stage.specs.Stage.{stageOf, nextStage}
-use Rattle.stage.specs.Samples.{shifted, clickSample, mixed, ansamSample}
-use Rattle.stage.specs.Enter.{digitTones, enterOf}
+use Rattle.stage.specs.Enter.{enterOf}
 
 -- 1
 unfoldable pub offHookOf : ℕ → ℕ → ℕ → Generated
@@ -35,54 +32,13 @@ offHookOf rng n r =
       finished = leb (samplesIn clickTime r) (oneMore n);
     }
 
--- two oscillators mixed, or resting in a gap
-unfoldable pub soundedOf : Bool → Nco → Nco → Mixed
-soundedOf true a b = record { sample = mixed (sampleOf a) (sampleOf b); a = steppedNco a; b = steppedNco b }
-soundedOf false a b = record { sample = zero; a = a; b = b }
-
 -- 2
 unfoldable pub dialToneOf : Nco → Nco → ℕ → ℕ → Generated
 dialToneOf a b n r =
     let p = soundedOf true a b in
     record { sample = p .sample; state = DialTone (p .a) (p .b) (oneMore n); finished = leb (samplesIn one r) (oneMore n) }
 
--- 3: i >= d, or the same pair of digit and tone as before
-unfoldable pub pairStays : ℕ → ℕ → Bool → ℕ → Bool → Bool
-pairStays d i on digit tone = leb d i || (eqb i digit && Bool·beq on tone)
-
--- 3: otherwise a changed pair is taken over, with fresh oscillators if in tone
-unfoldable pub takenOver : Bool → ℕ → Bool → Dial → List ℕ → ℕ → Dial
-takenOver true i on dial digits r = dial
-takenOver false i true dial digits r =
-    record {
-      digit = i;
-      tone = true;
-      a = freshNco (digitTones digits i .low) (ofNat r);
-      b = freshNco (digitTones digits i .high) (ofNat r);
-    }
-takenOver false i false dial digits r = record { digit = i; tone = false; a = dial .a; b = dial .b }
-
--- 3: a sample, then i and tone of t, with the new n
-abbrev pub dialledAt : Dial → Mixed → Float → List ℕ → ℕ → Dialled
-dialledAt dial p t digits r =
-    record {
-      sample = p .sample;
-      dial =
-          takenOver (pairStays (length digits) (digitAt t) (inTone t) (dial .digit) (dial .tone)) (digitAt t) (inTone t)
-          (record { digit = dial .digit; tone = dial .tone; a = p .a; b = p .b })
-          digits
-          r;
-      finished = leb (length digits) (digitAt t);
-    }
-
--- 3: no digit at the position, as with d = 0, gives one 0.0
-abbrev pub dialledBy : Bool → Dial → ℕ → List ℕ → ℕ → Dialled
-dialledBy true dial n digits r = record { sample = zero; dial = dial; finished = true }
-dialledBy false dial n digits r = dialledAt dial (soundedOf (dial .tone) (dial .a) (dial .b)) (timeAt r n) digits r
-
-unfoldable pub dialStepOf : Dial → ℕ → List ℕ → ℕ → Dialled
-dialStepOf dial n digits r = dialledBy (leb (length digits) (dial .digit)) dial n digits r
-
+-- 3
 abbrev pub dialState : Dial → ℕ → StageState
 dialState dial n = Dialling (dial .digit) (dial .tone) (dial .a) (dial .b) n
 
@@ -106,9 +62,6 @@ unfoldable pub ciOf : FskChannel → Generated
 ciOf f = record { sample = channelSample f; state = Ci (nextChannel f ciPayload); finished = leb 60 (nextChannel f ciPayload .done) }
 
 -- 6
-unfoldable pub answerOf : Nco → Nco → Float → Mixed
-answerOf carrier env sign = record { sample = ansamSample (sampleOf carrier) (sampleOf env) sign; a = steppedNco carrier; b = steppedNco env }
-
 unfoldable pub ansamOf : Nco → Nco → ℕ → ℕ → Generated
 ansamOf carrier env n r =
     let p = answerOf carrier env (signAt (timeAt r n)) in

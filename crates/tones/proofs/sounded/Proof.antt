@@ -1,0 +1,18 @@
+-- `sounded` meets its contract: in tone by `two_tones`, in a gap at once. Assumes nothing.
+use Rattle.tones.specs.Mixed.{soundedOf}
+use borrow.Author.Needs.{needs}
+use Rattle.tones.proofs.sounded.Statement.{statement}
+use Rattle.tones.proofs.sounded.Tie as tie
+
+two-tones-requires : tie.Need-two-tones-requires
+two-tones-requires c κs = search needs
+
+returns : tie.Need-returns
+returns c = rw (c .before .if1 .taken) (c .two-tones .ensures)
+
+returns-2 : tie.Need-returns-2
+unfolding soundedOf
+returns-2 c = rw (c .if1 .left)
+
+pub sounded-spec : {M : Type 1} → statement M
+sounded-spec = tie.close (tie.spec two-tones-requires returns returns-2)
