@@ -1,4 +1,9 @@
-.PHONY: test oracle bench
+.PHONY: call test oracle bench
+
+# A call to listen to, in call.wav, and a table of its stages. The program is proved before it is built.
+call:
+	rt check call
+	target/bin/call
 
 # The gate.
 test:

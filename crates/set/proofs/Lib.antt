@@ -1,7 +1,6 @@
-pub mod Prefix
 pub mod Ranges
-pub mod Cueing
 pub mod Unchanged
 pub mod Cases
-pub mod Counted
 pub mod Kept
+pub mod Reached
+pub mod Steps

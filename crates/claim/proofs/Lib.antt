@@ -1,0 +1,4 @@
+pub mod Kept
+pub mod Claim
+pub mod Lists
+pub mod Worked

@@ -1,0 +1,193 @@
+-- A worked list: dial 12 at 8,000, fills of uneven lengths across stage edges, one of them empty, up to T, and an empty fill there. It meets the
+-- claim's premises, and the line is up by the empty fill. The book is followed call by call; T's bounds place each fill. Assumes nothing.
+use Prim.Native.Nat.{ℕ, suc, _+_, _-_, _*_, _≤_, _<_}
+use native.Mathlib.Omega.{arith}
+use native.Mathlib.Nat.{add-zero, add-suc}
+use mathlib.Core.Path.{_≡_, refl, sym, ap, subst, _∙_}
+use mathlib.Core.Bool.{Bool, true, false}
+use mathlib.Core.List.{List, [], _∷_, _++_, map}
+use mathlib.Core.Logic.{⊎-elim}
+use contract.Lifetimes.{Lfts}
+use lib.Dec.{eqb, lit≤}
+use borrow.Author.Tests.{le-ltb, eq-eqb, ne-eqb}
+use Rattle.stage.specs.Stage.{stageNumber}
+use Rattle.schedule.proofs.Total.{total-bounds}
+use Rattle.passage.specs.Overture.{HasLength}
+use Rattle.passage.proofs.Way.{overture-length}
+use Rattle.passage.proofs.Connected.{connected-exactly}
+use Rattle.ascii.specs.Ascii.{ascii}
+use Rattle.keys.specs.Keys.{digitsOf, keysOf, isKey, keyRow}
+use Rattle.keys.specs.Keys as keys
+use Rattle.command.specs.Line.{pushed, upper, uppercased}
+use Rattle.command.specs.Command.{begins, is, commandOf}
+use Rattle.at.specs.Command.{executed}
+use Rattle.at.specs.At.{ended, commandByte, typedByte, lineFull}
+use Rattle.session.specs.declared.SessionState.{SessionState}
+use Rattle.session.specs.declared.SessionState.the-variants.{Dialling, Connected}
+use Rattle.sound.specs.Sound.{rateOk}
+use Rattle.set.specs.declared.Set.{Set}
+use Rattle.set.specs.Set.{freshSet}
+use Rattle.set.specs.Book.{Call, typing, filling, Book, blank, lengthOf, stageOfSample, shownBy, entered}
+use Rattle.set.proofs.Reached.{reached}
+use Rattle.claim.specs.Trace.{Event, callOf, Trace, setAfter}
+use Rattle.claim.specs.Claim.{Since, notCalled, bookAfter, sinceAfter}
+use Rattle.claim.proofs.Kept.{Up, Kept}
+use Rattle.claim.proofs.Claim.{fresh-runs}
+use Rattle.claim.proofs.Lists.{actOf, made, every-list, all-asked}
+
+-- ATDT12 and CR, each byte with an outbox of 4 bytes
+abbrev pub dial12 : List Call
+dial12 = map (λ (byte : ℕ). typing byte false 4) (ascii "ATDT12\r")
+
+pub dialled : (bookAfter 8000 blank dial12 .state ≡ Dialling) × (bookAfter 8000 blank dial12 .digits ≡ ascii "12") × (bookAfter 8000 blank dial12 .count ≡ 0)
+unfolding entered typedByte commandByte ended pushed upper uppercased begins is commandOf executed lineFull digitsOf keysOf isKey keyRow keys.upper
+dialled = (refl, refl, refl)
+
+-- T, for 12 at 8,000
+abbrev pub T : ℕ
+T = lengthOf (ascii "12") 8000
+
+pub T-near : (81533 ≤ T) × (T ≤ 81539)
+T-near = let b = total-bounds 8000 (lit≤ tt) (lit≤ tt) 2 (lit≤ tt) in go T (b .least) (b .most)
+  where
+    go : (T : ℕ) → 1175 * 8000 + 24 * 2 * 8000 ≤ 120 * T + 120 → 120 * T ≤ 1175 * 8000 + 24 * 2 * 8000 + 720 → (81533 ≤ T) × (T ≤ 81539)
+    go T l m = (omega arith, omega arith)
+
+long : HasLength (ascii "12") 8000 T
+long = overture-length (ascii "12") 8000 (lit≤ tt) (lit≤ tt) (lit≤ tt)
+
+sounds : (i : ℕ) → i < T → eqb (stageOfSample (ascii "12") 8000 (suc i)) 10 ≡ false
+unfolding stageOfSample
+sounds i l = ne-eqb _ 10 (ten _ (long .sounding i l))
+  where
+    ten : (n : ℕ) → n ≤ 9 → n ≡ 10 → ⊥
+    ten n h e = omega arith
+
+ends : eqb (stageOfSample (ascii "12") 8000 (suc T)) 10 ≡ true
+unfolding stageOfSample stageNumber
+ends = eq-eqb _ 10 (ap stageNumber (connected-exactly (ascii "12") 8000 T long T .1 (omega arith)))
+
+-- a book in the state, with 12 noted, and `count` samples written
+record At (state : SessionState) (count : ℕ) (k : Book) : Type 0 where
+  state-is : k .state ≡ state
+  digits-are : k .digits ≡ ascii "12"
+  count-is : k .count ≡ count
+
+same-count : {state : SessionState} {a b : ℕ} {k : Book} → a ≡ b → At state a k → At state b k
+same-count e p = record { state-is = p .state-is; digits-are = p .digits-are; count-is = p .count-is ∙ e }
+
+abbrev after-fill : (up : Bool) → SessionState
+after-fill true = Connected
+after-fill false = Dialling
+
+fill-at : (up : Bool) (count b : ℕ) (k : Book) → At Dialling count k → b ≤ 65536
+    → eqb (shownBy (ascii "12") 8000 count b) 10 ≡ up → At (after-fill up) (count + b) (entered 8000 k (filling b))
+unfolding entered
+fill-at true count b k a short e =
+    record {
+      state-is = rw (a .state-is, le-ltb 65536 b short, a .digits-are, a .count-is, e);
+      digits-are = rw (a .state-is, le-ltb 65536 b short, a .digits-are, a .count-is, e);
+      count-is = rw (a .state-is, le-ltb 65536 b short, a .digits-are, a .count-is, e);
+    }
+fill-at false count b k a short e =
+    record {
+      state-is = rw (a .state-is, le-ltb 65536 b short, a .digits-are, a .count-is, e);
+      digits-are = rw (a .state-is, le-ltb 65536 b short, a .digits-are, a .count-is, e);
+      count-is = rw (a .state-is, le-ltb 65536 b short, a .digits-are, a .count-is, e);
+    }
+
+-- across OffHook's end at 400, across DialTone's at 8,400, empty, up to Dialling's last sample, the longest, and all that is left; then empty at T
+abbrev pub fills : List Call
+fills =
+    filling 401
+    ∷ filling 8000
+    ∷ filling 0
+    ∷ filling 3199
+    ∷ filling 65536
+    ∷ filling (suc (T - 77137))
+    ∷ filling 0
+    ∷ []
+
+abbrev pub calls : List Call
+calls = dial12 ++ fills
+
+-- up to the last fill the line is not up, and then it is
+module _ (k : Book) (a : At Dialling 0 k) where
+  whole : (T : ℕ) → 81533 ≤ T → 77136 + suc (T - 77137) ≡ T
+  whole T h = omega arith
+
+  rest-short : (T : ℕ) → T ≤ 81539 → suc (T - 77137) ≤ 65536
+  rest-short T h = omega arith
+
+  within : (i : ℕ) → i < 81533 → i < T
+  within i l = omega (arith, T-near .0)
+
+  played : At Dialling T (bookAfter 8000 k (filling 401 ∷ filling 8000 ∷ filling 0 ∷ filling 3199 ∷ filling 65536 ∷ filling (suc (T - 77137)) ∷ []))
+  played =
+      let a1 = fill-at false 0 401 k a (lit≤ tt) (sounds 400 (within 400 (lit≤ tt))) in
+      let a2 = fill-at false 401 8000 _ a1 (lit≤ tt) (sounds 8400 (within 8400 (lit≤ tt))) in
+      let a3 = fill-at false 8401 0 _ a2 (lit≤ tt) (sounds 8401 (within 8401 (lit≤ tt))) in
+      let a4 = fill-at false 8401 3199 _ a3 (lit≤ tt) (sounds 11599 (within 11599 (lit≤ tt))) in
+      let a5 = fill-at false 11600 65536 _ a4 (lit≤ tt) (sounds 77135 (within 77135 (lit≤ tt))) in
+      let last : eqb (stageOfSample (ascii "12") 8000 (77136 + suc (T - 77137))) 10 ≡ false = rw add-suc (sounds (77136 + (T - 77137)) (omega (arith, T-near .0))) in
+      let a6 = fill-at false 77136 (suc (T - 77137)) _ a5 (rest-short T (T-near .1)) last in
+      same-count (whole T (T-near .0)) a6
+
+  up-at-T : At Connected T (bookAfter 8000 k fills)
+  up-at-T = same-count (add-zero T) (fill-at true T 0 _ played (lit≤ tt) ends)
+
+joined-calls : (k : Book) (before later : List Call) → bookAfter 8000 k (before ++ later) ≡ bookAfter 8000 (bookAfter 8000 k before) later
+joined-calls k [] later = refl
+joined-calls k (call ∷ before) later = joined-calls (entered 8000 k call) before later
+
+worked-book : At Connected T (bookAfter 8000 blank calls)
+worked-book =
+    let start : At Dialling 0 (bookAfter 8000 blank dial12) = record { state-is = dialled .0; digits-are = dialled .1; count-is = dialled .2 } in
+    subst (At Connected T) (sym (joined-calls blank dial12 fills)) (up-at-T (bookAfter 8000 blank dial12) start)
+
+-- ---- what comes of these calls on a set fresh at 8,000
+abbrev pub events : Lfts 1 → List Event
+events κs = made κs (freshSet 8000) (map actOf calls)
+
+pub record Worked (κs : Lfts 1) : Type 0 where
+  pub trace : Trace (freshSet 8000) (events κs)
+  pub asked : map callOf (events κs) ≡ calls
+  -- the premise of the claim, with the digits 12
+  pub called : sinceAfter 8000 blank notCalled (events κs) .called ≡ true
+  pub digits : bookAfter 8000 blank (map callOf (events κs)) .digits ≡ ascii "12"
+  -- m = T, and the empty fill that came there has the line up
+  pub count : setAfter (freshSet 8000) (events κs) .session .m ≡ T
+  pub emptied : sinceAfter 8000 blank notCalled (events κs) .emptied ≡ true
+  pub up : setAfter (freshSet 8000) (events κs) .session .state ≡ Connected
+
+module _ (count : ℕ) (h : Since) (c : Up 8000 (ascii "12") count h) (e : count ≡ T) where
+  emptied-at-T : h .emptied ≡ true
+  emptied-at-T =
+      ⊎-elim
+      (λ (l : T < count). absurd (not-past T count l e))
+      (λ (q : (count ≡ T) × (h .emptied ≡ true)). q .1)
+      (c .past)
+    where
+      not-past : (T count : ℕ) → T < count → count ≡ T → ⊥
+      not-past T count l e = omega arith
+
+course-up : (k : Book) (h : Since) → At Connected T k → Kept 8000 k h → Up 8000 (ascii "12") (k .count) h
+course-up k h a kept = rw (a .state-is, a .digits-are) at (kept .course)
+
+pub worked : (κs : Lfts 1) → Worked κs
+unfolding rateOk reached
+worked κs =
+    let q = every-list κs (freshSet 8000) (map actOf calls) in
+    let same : map callOf (events κs) ≡ calls = q .1 ∙ all-asked calls in
+    let book : At Connected T (bookAfter 8000 blank (map callOf (events κs))) = subst (λ (cs : List Call). At Connected T (bookAfter 8000 blank cs)) (sym same) worked-book in
+    let runs = fresh-runs 8000 refl (events κs) (q .0) in
+    let course : Up 8000 (ascii "12") (bookAfter 8000 blank (map callOf (events κs)) .count) (sinceAfter 8000 blank notCalled (events κs)) = course-up _ _ book (runs .kept) in
+    record {
+      trace = q .0;
+      asked = same;
+      called = course .called;
+      digits = book .digits-are;
+      count = ap (λ (s : Set). s .session .m) (runs .last) ∙ book .count-is;
+      emptied = emptied-at-T _ _ course (book .count-is);
+      up = ap (λ (s : Set). s .session .state) (runs .last) ∙ book .state-is;
+    }

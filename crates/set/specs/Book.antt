@@ -1,0 +1,117 @@
+-- 01, "The list of demand 3": the book, kept from the rate r, the calls and their arguments alone. It never reads the set.
+use Prim.Native.Nat.{ℕ, zero, suc, _+_}
+use mathlib.Core.Bool.{Bool, true, false}
+use mathlib.Core.List.{List, []}
+use lib.Dec.{leb, ltb, eqb}
+use lib.Ieee.{Float}
+use lib.ListN.{length}
+use Rattle.keys.specs.Keys.{digitsOf}
+use Rattle.schedule.specs.Length.{total}
+use Rattle.stage.specs.Stage.{stageOf, stageNumber}
+use Rattle.overture.specs.Iteration as iteration
+use Rattle.at.specs.declared.AtProcessor.{AtProcessor}
+use Rattle.at.specs.declared.Control.{Control}
+use Rattle.at.specs.declared.Control.the-variants.{Nothing, Dial, Answer, Hangup}
+use Rattle.at.specs.declared.Fed.{Fed}
+use Rattle.at.specs.declared.Outcome.{Outcome}
+use Rattle.at.specs.Processor.{fresh}
+use Rattle.at.specs.At.{typedByte, afterAtdt, lapse, forcedData, lineFull}
+use Rattle.session.specs.declared.SessionState.{SessionState}
+use Rattle.session.specs.declared.SessionState.the-variants.{Idle, Dialling, Answering, Connected}
+use Rattle.control.specs.Control.{heardIn}
+
+-- for typing, byte, carrier flag and outbox length; for time, nanoseconds and carrier flag; for a fill, buffer length; for forced data, none
+pub data Call : Type 0 where
+  typing : (byte : ℕ) (carrier : Bool) (room : ℕ) → Call
+  time : (ns : ℕ) (carrier : Bool) → Call
+  forcing : Call
+  filling : (b : ℕ) → Call
+
+pub record Book : Type 0 where
+  pub processor : AtProcessor
+  pub state : SessionState
+  pub digits : List ℕ
+  pub count : ℕ
+  pub shown : ℕ
+
+-- the book starts Idle with the fresh AT processor
+abbrev pub blank : Book
+blank = record { processor = fresh; state = Idle; digits = []; count = 0; shown = 0 }
+
+-- ---- the digits and r fix the overture: its first m samples, T, and the stage of its sample i, from 1
+abbrev pub overture : List ℕ → ℕ → ℕ → List Float
+overture digits r m = iteration.samples m (iteration.fresh digits r) digits r
+
+abbrev pub lengthOf : List ℕ → ℕ → ℕ
+lengthOf digits r = total r (length digits)
+
+unfoldable pub stageOfSample : List ℕ → ℕ → ℕ → ℕ
+stageOfSample digits r zero = 0
+stageOfSample digits r (suc i) = stageNumber (stageOf (iteration.after i (iteration.fresh digits r) digits r))
+
+-- ---- which calls are declined: 2, 4; 3, 5; 0 for none
+abbrev pub typingRefusal : (room full : Bool) → ℕ
+typingRefusal false full = 2
+typingRefusal true true = 4
+typingRefusal true false = 0
+
+abbrev pub fillRefusal : (long : Bool) → SessionState → ℕ
+fillRefusal true state = 3
+fillRefusal false Connected = 5
+fillRefusal false Idle = 0
+fillRefusal false Dialling = 0
+fillRefusal false Answering = 0
+
+abbrev pub declinedWith : Book → Call → ℕ
+declinedWith k (typing byte carrier room) = typingRefusal (leb 4 room) (lineFull (k .processor) byte)
+declinedWith k (time ns carrier) = 0
+declinedWith k forcing = 0
+declinedWith k (filling b) = fillRefusal (ltb 65536 b) (k .state)
+
+-- ---- typing, time and forced data step its AT processor
+abbrev pub fedBy : Book → ℕ → Bool → ℕ → Fed
+fedBy k byte carrier room = typedByte (k .processor) byte (heardIn (k .state) carrier) room
+
+abbrev pub lapsedBy : Book → ℕ → Bool → Outcome
+lapsedBy k ns carrier = lapse (k .processor) ns (heardIn (k .state) carrier)
+
+-- an answer makes the state Answering; a hang-up and a lost carrier make it Idle; all three set count and shown stage to 0, and so does a dial
+-- line, which makes it Dialling and notes the digits
+abbrev pub obeyed : Control → List ℕ → AtProcessor → Book → Book
+obeyed Nothing line p k = record { processor = p; state = k .state; digits = k .digits; count = k .count; shown = k .shown }
+obeyed Answer line p k = record { processor = p; state = Answering; digits = []; count = 0; shown = 0 }
+obeyed Hangup line p k = record { processor = p; state = Idle; digits = []; count = 0; shown = 0 }
+obeyed Dial line p k = record { processor = p; state = Dialling; digits = digitsOf line; count = 0; shown = 0 }
+
+-- ---- a fill of b samples in Dialling
+-- the shown stage is then that of sample count, or, with b = 0, that of sample count + 1
+abbrev pub shownBy : List ℕ → ℕ → ℕ → ℕ → ℕ
+shownBy digits r count zero = stageOfSample digits r (suc count)
+shownBy digits r count (suc b) = stageOfSample digits r (count + suc b)
+
+-- if that is 10, the line is up: state 3, shown stage 0
+abbrev pub lit : (up : Bool) → ℕ → ℕ → Book → Book
+lit true stage count k = record { processor = k .processor; state = Connected; digits = k .digits; count = count; shown = 0 }
+lit false stage count k = record { processor = k .processor; state = Dialling; digits = k .digits; count = count; shown = stage }
+
+-- any other fill leaves the book as it is
+abbrev pub filledIn : SessionState → ℕ → Book → ℕ → Book
+filledIn Dialling r k b =
+    lit (eqb (shownBy (k .digits) r (k .count) b) 10) (shownBy (k .digits) r (k .count) b) (k .count + b) k
+filledIn Idle r k b = k
+filledIn Answering r k b = k
+filledIn Connected r k b = k
+
+abbrev pub taken : ℕ → Book → Call → Book
+taken r k (typing byte carrier room) = obeyed (fedBy k byte carrier room .control) (afterAtdt (fedBy k byte carrier room)) (fedBy k byte carrier room .processor) k
+taken r k (time ns carrier) = obeyed (lapsedBy k ns carrier .control) [] (lapsedBy k ns carrier .processor) k
+taken r k forcing = obeyed Nothing [] (forcedData (k .processor)) k
+taken r k (filling b) = filledIn (k .state) r k b
+
+-- a call declined with 2, 3, 4 or 5 changes nothing in it
+abbrev pub unlessDeclined : ℕ → Book → Book → Book
+unlessDeclined zero k next = next
+unlessDeclined (suc number) k next = k
+
+unfoldable pub entered : ℕ → Book → Call → Book
+entered r k call = unlessDeclined (declinedWith k call) k (taken r k call)
