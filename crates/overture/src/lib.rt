@@ -1,20 +1,20 @@
-// The overture over a lent buffer. Each kind of stage has a writer with a loop of its own, whose
-// oscillators stay in locals; where its stage ends, the rest of the buffer is lent on to the
-// next stage's writer.
+// The overture over a lent buffer. Each kind of stage has a writer, which plays a run of samples
+// over which the stage's clock tells the same; the loops that play hold their oscillators in locals.
+// Where a stage ends, the rest of the buffer is lent on to the next stage's writer.
 use fsk::FskChannel;
 use nco::Nco;
 use stage::Stage;
 use stage::StageState;
 use tones::Dial;
 ghost use mathlib.Core.Path.{_≡_};
+ghost use mathlib.Core.Bool.{true, false};
 ghost use Prim.Native.Nat.{_≤_, _<_};
 ghost use lib.ListN.{length};
 ghost use Rattle.stage.specs.declared.StageState.the-variants.{OffHook, DialTone, Dialling, Ringback, Ci, Ansam, CmJm, Cj, Training, Connected};
 ghost use Rattle.stage.specs.Next.{dialState};
-ghost use Rattle.overture.specs.Iteration.{after, samples, shownAfter};
 ghost use Rattle.tones.specs.Mixed.{soundedOf, answerOf};
+ghost use Rattle.overture.specs.Iteration.{after, samples, shownAfter};
 ghost use Rattle.overture.specs.Writers.{WroteIs, SentIs, PlayedIs};
-ghost use mathlib.Core.Bool.{true, false};
 
 // The state after the samples written, and how many they are.
 pub struct Wrote {
