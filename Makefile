@@ -1,4 +1,9 @@
-.PHONY: test oracle
+.PHONY: call test oracle
+
+# A call to listen to, in call.wav, and a table of its stages. The program is proved before it is built.
+call:
+	rt check call
+	target/bin/call
 
 # The gate.
 test:

@@ -18,7 +18,30 @@ class Disagreement(Exception):
     """The oracle's answer is not 01's."""
 
 
-def count(script, answers, extended=False):
+class Spread:
+    """Over which rates and digit counts the calls of many scripts were spread."""
+
+    def __init__(self):
+        self.samples, self.calls = 0, 0
+        self.played, self.heard_out = set(), set()
+
+    def note(self, before, call, after, refusal):
+        if call[0] == "F" and refusal == "0" and before.state == DIALLING and call[1][0] > 0:
+            self.samples += call[1][0]
+            self.played.add((before.rate, len(before.digits)))
+        if before.state == DIALLING and after.state == CONNECTED:
+            self.calls += 1
+            self.heard_out.add((before.rate, len(before.digits)))
+
+    def text(self):
+        lines = [f"{self.samples} samples of overtures"]
+        for what, pairs in (("played", self.played), (f"heard until the line was up, {self.calls} times", self.heard_out)):
+            rates, counts = {r for r, _ in pairs}, {d for _, d in pairs}
+            lines.append(f"{what}: {len(rates)} rates, {len(counts)} of the 77 digit counts")
+        return "\n".join(lines)
+
+
+def count(script, answers, extended=False, spread=None):
     """The counts for a script and what the oracle printed for it with --bits."""
     reached = Counter()
     wall = paper.Wall()
@@ -39,6 +62,8 @@ def count(script, answers, extended=False):
             raise Disagreement(f"line {number} {line!r}: {row} / {second}, by 01 {expected} / {facts}")
         note_answer(reached, call, row.split(","), wall.set)
         NOTES[call[0]](reached, before, call[1], wall.set, row.split(","))
+        if spread:
+            spread.note(before, call, wall.set, row.split(",")[0])
     if at != len(rows):
         raise Disagreement(f"{len(rows) - at} lines too many")
     return reached

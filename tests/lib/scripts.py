@@ -382,6 +382,22 @@ class Script:
         followers = (self.scene_dial, self.scene_carrier, self.scene_resume, self.scene_hang_up, self.scene_escape)
         self.random.choice(followers)()
 
+    def whole_call(self, count):
+        """One call of `count` digits until the line is up, in buffers of many lengths."""
+        self.create(self.random.choice(USUAL_RATES) if self.chance(0.2) else self.random.randint(8_000, 192_000))
+        for byte in b"ATDT" + bytes(self.random.choice(KEYS) for _ in range(count)) + b"\r":
+            self.put(b"T,%d,0" % byte)
+        for end in paper.stage_ends(count, self.set.rate):
+            target = end + self.random.choice((-1, 0, 0, 1))
+            while self.set.state == DIALLING and self.set.m < target:
+                self.fill(min(target - self.set.m, self.random.choice(BLOCKS)))
+            if self.chance(0.5):
+                self.fill(0)
+        while self.set.state == DIALLING:
+            self.fill(self.random.choice((0, 1, 2, 100)))
+        self.fill(1)
+        return b"\n".join(self.lines) + b"\n"
+
     SCENES = (
         (scene_fresh, 6), (scene_command, 12), (scene_empty_line, 2), (scene_dial, 10), (scene_fill, 10),
         (scene_stage_end, 8), (scene_walk, 3), (scene_line_up, 3), (scene_inner_edge, 5), (scene_escape, 10),
@@ -400,3 +416,7 @@ class Script:
 
 def script(seed, count, extended=False):
     return Script(seed, extended).write(count)
+
+
+def whole_call(seed, count, extended=False):
+    return Script(seed, extended).whole_call(count)

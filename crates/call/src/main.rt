@@ -1,0 +1,80 @@
+// Makes a call as a theatre's machine does: types the dial line, fills buffers of uneven lengths until
+// the line is up, writes what the house hears to a WAV file, and prints when each stage came.
+
+mod play;
+mod stages;
+mod table;
+mod words;
+
+fn main() {
+    let count = os::arg_count();
+    if count < 2 {
+        call(b"5551234", 48000, b"call.wav");
+        return;
+    }
+    if count == 4 {
+        with_digits();
+        return;
+    }
+    words::say(b"call: it takes DIGITS RATE FILE, or nothing for 5551234 48000 call.wav\n");
+}
+
+fn with_digits() {
+    let mut word = [0u8; 76];
+    let count = os::arg(1, &mut word);
+    if os::errno() == 0 {
+        with_rate(&word[..count]);
+        return;
+    }
+    words::say(
+        b"call: DIGITS has more than 76 bytes; it takes up to 76 of 0-9, A-D, a-d, * and #\n",
+    );
+}
+
+fn with_rate(digits: &[u8]) {
+    if words::all_dialled(digits) {
+        let rate = words::rate();
+        if sound::rate_ok(rate) {
+            with_file(digits, rate);
+            return;
+        }
+        words::say(b"call: RATE is no whole number from 8000 to 192000, in decimal digits\n");
+        return;
+    }
+    words::say(
+        b"call: DIGITS has a byte that is no key; it takes up to 76 of 0-9, A-D, a-d, * and #\n",
+    );
+}
+
+fn with_file(digits: &[u8], rate: u32) {
+    let mut path = io::buffer();
+    let count = os::arg(3, &mut path);
+    if os::errno() == 0 {
+        call(digits, rate, &path[..count]);
+        return;
+    }
+    words::say(
+        b"call: FILE is too long; it takes a path of up to 4095 bytes that can be written\n",
+    );
+}
+
+// The fills are made twice: a WAV file's header, which comes first, has to know how many samples follow.
+fn call(digits: &[u8], rate: u32, path: &[u8]) {
+    let mut samples = [0.0f32; 4096];
+    let mut firsts = [0u32; 11];
+    let dialled = play::dial(rate, digits);
+    let up = stages::find_all(dialled, &mut samples, &mut firsts);
+    let total = table::between(1, firsts[10]);
+    let file = os::open_overwrite(path);
+    if file < 0 {
+        words::cannot_write(path);
+        return;
+    }
+    if play::record(file, dialled, total, &mut samples) {
+        libc::close(file);
+        table::print(&firsts, rate, up.m());
+        return;
+    }
+    words::cannot_write(path);
+    libc::close(file);
+}

@@ -1,0 +1,50 @@
+// When each stage of a call came, by what the set showed.
+use crate::play;
+use set::Set;
+
+// Makes the fills until the line is up, and notes the first sample of each stage at its number.
+pub fn find_all(set: Set, samples: &mut [f32], firsts: &mut [u32]) -> Set {
+    let mut s = set;
+    let mut turn: u32 = 0;
+    while turn < u32::MAX && play::is_dialling(s) {
+        s = find_in(s, play::length(turn), samples, firsts);
+        turn += 1;
+    }
+    s
+}
+
+// An empty fill shows the stage of the sample after it, so what is searched is one sample at least.
+fn find_in(set: Set, n: usize, samples: &mut [f32], firsts: &mut [u32]) -> Set {
+    let none: usize = 0;
+    let some = play::larger(n, 1);
+    if some > samples.len() {
+        return set;
+    }
+    let filled = set.process_out(&mut samples[none..n]);
+    let next = filled.set;
+    note(
+        set,
+        edges::lit(set),
+        edges::lit(next),
+        &mut samples[none..some],
+        firsts,
+    );
+    next
+}
+
+// Notes the stages that a fill lit.
+fn note(set: Set, before: u8, after: u8, samples: &mut [f32], firsts: &mut [u32]) {
+    let mut stage = before;
+    while stage < after {
+        stage += 1;
+        let k = edges::first_lit(set, stage, samples);
+        let first = std::num::wrapping_add_u32(set.m(), play::at_most(k, u32::MAX));
+        put(firsts, stage as usize, first);
+    }
+}
+
+fn put(firsts: &mut [u32], at: usize, sample: u32) {
+    if at < firsts.len() {
+        firsts[at] = sample;
+    }
+}

@@ -1,0 +1,95 @@
+// What is printed of a call: a line for each stage, its length T, and when the line was up.
+
+pub fn print(firsts: &[u32; 11], rate: u32, up: u32) {
+    let mut page = [0u8; 2048];
+    let mut k = text::put(
+        &mut page,
+        0,
+        b"stage  name            first   samples   seconds\n",
+    );
+    k = put_stages(&mut page, k, firsts, rate);
+    k = put_end(&mut page, k, between(1, firsts[10]), rate, up);
+    console::stream::flush(&page, k);
+}
+
+// How many samples there are from one to before another.
+pub fn between(first: u32, next: u32) -> u32 {
+    if first < next {
+        return next - first;
+    }
+    0
+}
+
+fn put_stages(page: &mut [u8], at: usize, firsts: &[u32; 11], rate: u32) -> usize {
+    let mut k = at;
+    let mut stage: usize = 1;
+    while stage < 10 {
+        let first = firsts[stage];
+        let next = firsts[stage + 1];
+        k = put_stage(page, k, stage, first);
+        k = put_length(page, k, between(first, next), rate);
+        stage += 1;
+    }
+    k = put_stage(page, k, 10, firsts[10]);
+    text::put_byte(page, k, b'\n')
+}
+
+fn put_stage(page: &mut [u8], at: usize, stage: usize, first: u32) -> usize {
+    let mut k = put_number(page, at, stage as u64, 5);
+    k = put_name(page, k, stage);
+    put_number(page, k, first as u64, 9)
+}
+
+// The Rust's names.
+fn put_name(page: &mut [u8], at: usize, stage: usize) -> usize {
+    match stage {
+        1 => text::put(page, at, b"  OffHook  "),
+        2 => text::put(page, at, b"  DialTone "),
+        3 => text::put(page, at, b"  Dialling "),
+        4 => text::put(page, at, b"  Ringback "),
+        5 => text::put(page, at, b"  Ci       "),
+        6 => text::put(page, at, b"  Ansam    "),
+        7 => text::put(page, at, b"  CmJm     "),
+        8 => text::put(page, at, b"  Cj       "),
+        9 => text::put(page, at, b"  Training "),
+        _ => text::put(page, at, b"  Connected"),
+    }
+}
+
+fn put_length(page: &mut [u8], at: usize, samples: u32, rate: u32) -> usize {
+    let mut word = [0u8; 20];
+    let k = put_number(page, at, samples as u64, 10);
+    let n = text::put_seconds(&mut word, 0, samples, rate);
+    let end = put_right(page, k, &word, n, 10);
+    text::put_byte(page, end, b'\n')
+}
+
+fn put_number(page: &mut [u8], at: usize, number: u64, width: usize) -> usize {
+    let mut word = [0u8; 20];
+    let n = text::put_decimal(&mut word, 0, number);
+    put_right(page, at, &word, n, width)
+}
+
+// The first `n` bytes of a word, with spaces in front up to a width.
+fn put_right(page: &mut [u8], at: usize, word: &[u8], n: usize, width: usize) -> usize {
+    let mut k = at;
+    let mut i = n;
+    while i < width {
+        k = text::put_byte(page, k, b' ');
+        i += 1;
+    }
+    if n > word.len() {
+        return k;
+    }
+    text::put(page, k, &word[..n])
+}
+
+fn put_end(page: &mut [u8], at: usize, total: u32, rate: u32, up: u32) -> usize {
+    let mut k = text::put(page, at, b"T is ");
+    k = text::put_decimal(page, k, total as u64);
+    k = text::put(page, k, b" samples, ");
+    k = text::put_seconds(page, k, total, rate);
+    k = text::put(page, k, b" seconds\nthe line was up at sample ");
+    k = text::put_decimal(page, k, up as u64);
+    text::put_byte(page, k, b'\n')
+}
