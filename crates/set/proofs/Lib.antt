@@ -1,6 +1,4 @@
-pub mod Prefix
 pub mod Ranges
-pub mod Cueing
 pub mod Unchanged
 pub mod Cases
 pub mod Kept

@@ -28,7 +28,8 @@ use Rattle.set.specs.declared.Set.{Set}
 use Rattle.set.specs.declared.Refusal.{Refusal}
 use Rattle.set.specs.Refusals.{refusalNumber}
 use Rattle.set.specs.Sound.{sound}
-use Rattle.set.specs.Set.{heard, controlled, typedIf, typed, lapsed, forced, isUp, fillIf, fill, buffer}
+use Rattle.control.specs.Control.{heard, controlled}
+use Rattle.set.specs.Set.{typedIf, typed, lapsed, forced, isUp, fillIf, fill, buffer}
 use Rattle.set.specs.Book.{Call, typing, time, forcing, filling, Book, stageOfSample, typingRefusal, fillRefusal, declinedWith, fedBy, lapsedBy, obeyed, shownBy, lit, filledIn, unlessDeclined, entered}
 
 -- where nothing is dialled no samples are to come; else the state is `count` samples into the overture

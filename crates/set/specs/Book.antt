@@ -18,7 +18,7 @@ use Rattle.at.specs.Processor.{fresh}
 use Rattle.at.specs.At.{typedByte, afterAtdt, lapse, forcedData, lineFull}
 use Rattle.session.specs.declared.SessionState.{SessionState}
 use Rattle.session.specs.declared.SessionState.the-variants.{Idle, Dialling, Answering, Connected}
-use Rattle.set.specs.Set.{heardIn}
+use Rattle.control.specs.Control.{heardIn}
 
 -- for typing, byte, carrier flag and outbox length; for time, nanoseconds and carrier flag; for a fill, buffer length; for forced data, none
 pub data Call : Type 0 where

@@ -1,5 +1,4 @@
 pub mod Refusals
 pub mod Sound
 pub mod Set
-pub mod Cue
 pub mod Book

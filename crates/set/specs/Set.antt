@@ -8,16 +8,13 @@ use lib.ListN.{length}
 use lib.Ieee.{Float}
 use Rattle.ascii.specs.Front.{put}
 use Rattle.reply.specs.declared.Reply.the-variants as reply
-use Rattle.at.specs.declared.Control.{Control}
-use Rattle.at.specs.declared.Control.the-variants.{Nothing, Dial, Answer, Hangup}
 use Rattle.at.specs.declared.Outcome.{Outcome}
 use Rattle.at.specs.declared.Fed.{Fed}
 use Rattle.at.specs.Processor.{fresh}
 use Rattle.at.specs.At.{typedByte, sent, afterAtdt, lapse, forcedData, lineFull}
 use Rattle.session.specs.declared.Session.{Session}
-use Rattle.session.specs.declared.SessionState.{SessionState}
-use Rattle.session.specs.declared.SessionState.the-variants as state
-use Rattle.session.specs.Session.{stateNumber, idle, answering, dialling, filled, written, ringNumber}
+use Rattle.session.specs.Session.{stateNumber, idle, filled, written, ringNumber}
+use Rattle.control.specs.Control.{heard, controlled}
 use Rattle.sound.specs.Sound.{rateOk}
 use Rattle.set.specs.declared.Refusal.{Refusal}
 use Rattle.set.specs.declared.Refusal.the-variants.{Accepted, Rate, Outbox, Length, LineFull, Connected, Unsound}
@@ -41,23 +38,6 @@ madeIf false r = record { set = freshSet 8000; refusal = Rate }
 
 unfoldable pub made : ℕ → Made
 made r = madeIf (rateOk r) r
-
--- the carrier flag is read as false in Idle
-abbrev pub heardIn : SessionState → Bool → Bool
-heardIn state.Idle carrier = false
-heardIn state.Dialling carrier = carrier
-heardIn state.Answering carrier = carrier
-heardIn state.Connected carrier = carrier
-
-unfoldable pub heard : Session → Bool → Bool
-heard s carrier = heardIn (s .state) carrier
-
--- what the AT processor asks of the call control; `line` is the dial line's bytes after ATDT
-unfoldable pub controlled : Control → Session → List ℕ → ℕ → Session
-controlled Nothing s line r = s
-controlled Dial s line r = dialling line r
-controlled Answer s line r = answering
-controlled Hangup s line r = idle
 
 -- a typed byte: 6, 2, 4
 abbrev pub byteDeclined : Refusal → Set → Typed

@@ -1,7 +1,6 @@
 // The calling set: the rate, the AT processor and the session in one value. Every call takes the
 // set that the one before returned, answers always, and a call that is declined changes nothing.
 use at::AtProcessor;
-use at::Control;
 use command::Line;
 use keys::Digits;
 use reply::Reply;
@@ -10,21 +9,15 @@ use session::SessionState;
 ghost use mathlib.Core.Path.{_≡_};
 ghost use mathlib.Core.Bool.{true};
 ghost use lib.Dec.{leb, ltb};
-ghost use Prim.Native.Nat.{_+_, _*_, _/_, _<_, _≤_};
-ghost use Rattle.math.specs.Float.{one};
-ghost use Rattle.schedule.specs.Time.{samplesIn};
-ghost use Rattle.schedule.specs.Length.{clickTime};
-ghost use lib.ListN.{length, drop};
-ghost use Rattle.ascii.specs.Front.{put, putLength};
-ghost use Rattle.reply.specs.Texts.{textOf};
+ghost use Prim.Native.Nat.{_<_};
+ghost use lib.ListN.{length};
+ghost use Rattle.ascii.specs.Front.{put};
 ghost use Rattle.at.specs.Processor.{commandMode};
 ghost use Rattle.at.specs.At.{typedByte, sent, lapse, lineFull};
-ghost use Rattle.command.specs.Line as commandLine;
-ghost use Rattle.session.specs.Session.{dialling};
 ghost use Rattle.set.specs.Refusals.{refusalNumber};
 ghost use Rattle.set.specs.Sound.{sound};
-ghost use Rattle.set.specs.Set.{freshSet, made, heardIn, heard, controlled, byteDeclined, byteTaken, typedIf, typed, outboxIf, outbox, lapseTaken, lapsed, forced, isUp, fillIf, fill, bufferIf, buffer, rung};
-ghost use Rattle.set.specs.Cue.{CueIs};
+ghost use Rattle.control.specs.Control.{heard};
+ghost use Rattle.set.specs.Set.{freshSet, made, byteDeclined, byteTaken, typedIf, typed, outboxIf, outbox, lapseTaken, lapsed, forced, isUp, fillIf, fill, bufferIf, buffer, rung};
 
 // The longest buffer that a fill takes.
 const MAX_FILL: usize = 65536;
@@ -83,11 +76,6 @@ pub struct Rung {
     pub ring: u8,
 }
 
-pub struct Cued {
-    pub refusal: Refusal,
-    pub sample: u64,
-}
-
 impl Refusal {
     // 01's number.
     pub fn number(self) -> u8
@@ -116,59 +104,6 @@ fn fresh(rate: u32) -> Set
         processor,
         session,
     }
-}
-
-// The carrier flag, which is read as false in Idle.
-fn heard_in(state: SessionState, carrier: bool) -> bool
-    ensures { λ r. ⌜ r ≡ heardIn state carrier ⌝ }
-{
-    match state {
-        SessionState::Idle => false,
-        SessionState::Dialling => carrier,
-        SessionState::Answering => carrier,
-        SessionState::Connected => carrier,
-    }
-}
-
-// Dials the line's bytes after ATDT.
-fn dial(line: Line, rate: u32) -> Session
-    ensures { λ r. ⌜ r ≡ dialling (drop 4 (commandLine.typed line)) rate ⌝ }
-{
-    let bytes = line.bytes;
-    let len = line.len;
-    let from: usize = 4;
-    if len < from {
-        let none: usize = 0;
-        return Session::dial(&bytes[none..none], rate);
-    }
-    if len > 80 {
-        return Session::dial(&bytes[from..], rate);
-    }
-    Session::dial(&bytes[from..len], rate)
-}
-
-// Does what the AT processor asks of the call control.
-fn control(control: Control, session: Session, line: Line, rate: u32) -> Session
-    ensures { λ r. ⌜ r ≡ controlled control session (drop 4 (commandLine.typed line)) rate ⌝ }
-{
-    match control {
-        Control::Nothing => session,
-        Control::Dial => dial(line, rate),
-        Control::Answer => Session::answer(),
-        Control::Hangup => Session::hangup(),
-    }
-}
-
-// The middle of a digit's tone: 0.05 s into it.
-fn cue_sample(position: u32, rate: u32) -> u64
-    requires { ⌜ (position < 76) × (8000 ≤ rate) × (rate ≤ 192000) ⌝ }
-    ensures { λ m. ⌜ m ≡ samplesIn clickTime rate + samplesIn one rate + (20 * position + 5) * rate / 100 + 1 ⌝ }
-{
-    let click = schedule::stage_samples_for(stage::OFF_HOOK_S, rate);
-    let tone = schedule::stage_samples_for(stage::DIAL_TONE_S, rate);
-    let wide = rate as u64;
-    let place = (20 * (position as u64) + 5) * wide / 100;
-    click + tone + place + 1
 }
 
 // A call on a set that is not sound, or whose cause 01 lists.
@@ -252,13 +187,13 @@ impl Set {
         let processor = self.processor;
         let session = self.session;
         let state = session.state;
-        let heard = heard_in(state, carrier);
+        let heard = control::heard_in(state, carrier);
         let fed = processor.feed(byte, heard, out);
         let next = fed.processor;
         let reply = fed.reply;
         let asked = fed.control;
         let line = fed.line;
-        let moved = control(asked, session, line, self.rate);
+        let moved = control::obey(asked, session, line, self.rate);
         Typed {
             set: Set {
                 rate: self.rate,
@@ -291,13 +226,13 @@ impl Set {
         let processor = self.processor;
         let session = self.session;
         let state = session.state;
-        let heard = heard_in(state, carrier);
+        let heard = control::heard_in(state, carrier);
         let o = processor.advance_time(ns, heard);
         let next = o.processor;
         let reply = o.reply;
         let asked = o.control;
         let line = Line::new();
-        let moved = control(asked, session, line, self.rate);
+        let moved = control::obey(asked, session, line, self.rate);
         Lapsed {
             set: Set {
                 rate: self.rate,
@@ -392,38 +327,6 @@ impl Set {
         }
     }
 
-    // A sample number, from 1 in the whole overture, in the tone of the digit at a position.
-    pub fn cue(self, position: u32) -> Cued
-        ensures { λ c. ⌜ CueIs self position c ⌝ }
-    {
-        if self.sound() {
-            return self.cue_sound(position);
-        }
-        Cued {
-            refusal: Refusal::Unsound,
-            sample: 0,
-        }
-    }
-
-    fn cue_sound(self, position: u32) -> Cued
-        requires { ⌜ sound self ≡ true ⌝ }
-        ensures { λ c. ⌜ CueIs self position c ⌝ }
-    {
-        let session = self.session;
-        let state = session.state;
-        let len = session.digits.len;
-        if (state.number() == 1) & ((position as usize) < len) {
-            return Cued {
-                refusal: Refusal::Accepted,
-                sample: cue_sample(position, self.rate),
-            };
-        }
-        Cued {
-            refusal: Refusal::Position,
-            sample: 0,
-        }
-    }
-
     // The plain readers.
     pub fn in_command_mode(self) -> bool
         ensures { λ r. ⌜ r ≡ commandMode (self .processor) ⌝ }
@@ -462,13 +365,4 @@ impl Set {
     {
         self.session.digits
     }
-}
-
-// Writes the text of a reply's code at the buffer's front and answers its length; 0 for a short
-// buffer or another code.
-pub fn write_reply(code: u8, out: &mut [u8]) -> usize
-    ensures { λ r. ⌜ r ≡ putLength (textOf code) (length (now (out .entry))) ⌝ }
-    ensures { λ _. ⌜ now (out .exit) ≡ put (textOf code) (now (out .entry)) ⌝ }
-{
-    reply::write_reply(code, out)
 }

@@ -1,5 +1,5 @@
 -- `Set::take_byte` meets its contract, by what the processor and the control ensure. Assumes nothing.
-use Rattle.set.specs.Set.{heard}
+use Rattle.control.specs.Control.{heard}
 use borrow.Author.Needs.{needs}
 use Rattle.set.proofs.Set.take_byte.Statement.{statement}
 use Rattle.set.proofs.Set.take_byte.Tie as tie
@@ -10,16 +10,16 @@ heard-in-requires c κs = search needs
 feed-requires : tie.Need-feed-requires
 feed-requires c κs = search needs
 
-control-requires : tie.Need-control-requires
-control-requires c κs = search needs
+obey-requires : tie.Need-obey-requires
+obey-requires c κs = search needs
 
 same-length : tie.Need-same-length
 same-length c = search needs
 
 returns : tie.Need-returns
 unfolding heard
-returns c = (rw (c .control .ensures, c .before .before .before .before .before .feed .ensures .0, c .before .before .before .before .before .before .before .heard-in .ensures), c .before .before .before .before .before .feed .ensures .1)
+returns c = (rw (c .obey .ensures, c .before .before .before .before .before .feed .ensures .0, c .before .before .before .before .before .before .before .heard-in .ensures), c .before .before .before .before .before .feed .ensures .1)
 
 pub take-byte-spec : {M : Type 1} → statement M
 take-byte-spec =
-    tie.close (tie.spec heard-in-requires feed-requires control-requires same-length returns)
+    tie.close (tie.spec heard-in-requires feed-requires obey-requires same-length returns)

@@ -1,5 +1,5 @@
 -- `Set::take_time` meets its contract, by what the processor and the control ensure. Assumes nothing.
-use Rattle.set.specs.Set.{heard}
+use Rattle.control.specs.Control.{heard}
 use borrow.Author.Needs.{needs}
 use Rattle.set.proofs.Set.take_time.Statement.{statement}
 use Rattle.set.proofs.Set.take_time.Tie as tie
@@ -13,14 +13,14 @@ advance-time-requires c κs = search needs
 new-requires : tie.Need-new-requires
 new-requires c κs = search needs
 
-control-requires : tie.Need-control-requires
-control-requires c κs = search needs
+obey-requires : tie.Need-obey-requires
+obey-requires c κs = search needs
 
 returns : tie.Need-returns
 unfolding heard
-returns c = rw (c .control .ensures, c .before .new .ensures, c .before .before .before .advance-time .ensures, c .before .before .before .before .heard-in .ensures)
+returns c = rw (c .obey .ensures, c .before .new .ensures, c .before .before .before .advance-time .ensures, c .before .before .before .before .heard-in .ensures)
 
 pub take-time-spec : {M : Type 1} → statement M
 take-time-spec =
     tie.close
-    (tie.spec heard-in-requires advance-time-requires new-requires control-requires returns)
+    (tie.spec heard-in-requires advance-time-requires new-requires obey-requires returns)

@@ -13,11 +13,11 @@ use Rattle.schedule.specs.Time.{samplesIn}
 use Rattle.schedule.specs.Length.{clickTime}
 use Rattle.passage.proofs.Cue.{cue-in-tone}
 use Rattle.session.specs.Session.{stateNumber, digitsHeld}
 use Rattle.set.specs.declared.Refusal.the-variants.{Accepted, Unsound, Position}
 use Rattle.set.specs.declared.Set.{Set}
 use Rattle.set.specs.Sound.{sound}
-use Rattle.set.specs.Cue.{cuable, cueRefusal, CueIs}
+use Rattle.cue.specs.Cue.{cuable, cueRefusal, CueIs}
 use Rattle.set.proofs.Ranges.{right, sound-digits, sound-rate}
 
 pub place-small : (p r : ℕ) → p < 76 → r ≤ 192000 → (20 * p + 5) * r ≤ 292800000
 place-small p r h k = le-trans (mul-le-mul (few p h) k) (lit≤ tt)

@@ -1,10 +1,10 @@
 -- `cue_sample` meets its contract: its sums are small. Assumes nothing.
 use native.Mathlib.Omega.{arith}
 use Rattle.schedule.proofs.Lengths.{click-range, dial-tone-range}
-use Rattle.set.proofs.Cueing.{place-small}
+use Rattle.cue.proofs.Cueing.{place-small}
 use borrow.Author.Needs.{needs}
-use Rattle.set.proofs.cue_sample.Statement.{statement}
-use Rattle.set.proofs.cue_sample.Tie as tie
+use Rattle.cue.proofs.cue_sample.Statement.{statement}
+use Rattle.cue.proofs.cue_sample.Tie as tie
 
 stage-samples-for-requires : tie.Need-stage-samples-for-requires
 stage-samples-for-requires c κs = search needs

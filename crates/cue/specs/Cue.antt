@@ -5,11 +5,11 @@ use mathlib.Core.Bool.{Bool, true, false, _&&_}
 use lib.Dec.{ltb, eqb}
 use Rattle.passage.specs.Cue.{InDigitTone}
 use Rattle.session.specs.Session.{stateNumber, digitsHeld}
 use Rattle.set.specs.declared.Refusal.{Refusal}
 use Rattle.set.specs.declared.Refusal.the-variants.{Accepted, Unsound, Position}
 use Rattle.set.specs.declared.Set.{Set}
-use Rattle.set.specs.declared.Cued.{Cued}
+use Rattle.cue.specs.declared.Cued.{Cued}
 use Rattle.set.specs.Sound.{sound}
 
 -- state 1, and a position below d
 abbrev pub cuable : Set → ℕ → Bool

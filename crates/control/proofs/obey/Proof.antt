@@ -1,8 +1,8 @@
--- `control` meets its contract: case by case. Assumes nothing.
-use Rattle.set.specs.Set.{controlled}
+-- `control::obey` meets its contract: case by case. Assumes nothing.
+use Rattle.control.specs.Control.{controlled}
 use borrow.Author.Needs.{needs}
-use Rattle.set.proofs.control.Statement.{statement}
-use Rattle.set.proofs.control.Tie as tie
+use Rattle.control.proofs.obey.Statement.{statement}
+use Rattle.control.proofs.obey.Tie as tie
 
 enum-told : tie.Need-enum-told
 enum-told c = search needs
@@ -41,8 +41,8 @@ returns-4 : tie.Need-returns-4
 unfolding controlled
 returns-4 c = rw (c .before .enum-told4 .given .1, c .hangup .ensures)
 
-pub control-spec : {M : Type 1} → statement M
-control-spec =
+pub obey-spec : {M : Type 1} → statement M
+obey-spec =
     tie.close
     (tie.spec
     enum-told

@@ -1,9 +1,9 @@
--- `Set::cue` meets its contract: by soundness. Assumes nothing.
+-- `cue::cue` meets its contract: by soundness. Assumes nothing.
 use mathlib.Core.Path.{sym, _∙_}
-use Rattle.set.proofs.Cueing.{unsound}
+use Rattle.cue.proofs.Cueing.{unsound}
 use borrow.Author.Needs.{needs}
-use Rattle.set.proofs.Set.cue.Statement.{statement}
-use Rattle.set.proofs.Set.cue.Tie as tie
+use Rattle.cue.proofs.cue.Statement.{statement}
+use Rattle.cue.proofs.cue.Tie as tie
 
 sound-requires : tie.Need-sound-requires
 sound-requires c κs = search needs

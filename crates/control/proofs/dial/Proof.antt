@@ -2,10 +2,10 @@
 use mathlib.Core.Path.{_≡_}
 use lib.ListN.{length}
 use native.Mathlib.Omega.{arith}
-use Rattle.set.proofs.Prefix.{too-short, held, too-long}
+use Rattle.control.proofs.Prefix.{too-short, held, too-long}
 use borrow.Author.Needs.{needs}
-use Rattle.set.proofs.dial.Statement.{statement}
-use Rattle.set.proofs.dial.Tie as tie
+use Rattle.control.proofs.dial.Statement.{statement}
+use Rattle.control.proofs.dial.Tie as tie
 
 sub-dial : tie.Need-sub-dial
 sub-dial c = search needs
