@@ -1,6 +1,6 @@
 -- What holds of the book and of what came since the dial line, at every point of a list: each call keeps it. By cases of the call, and of a fill by
 -- whether it is empty and whether its stage is Connected. Assumes nothing.
-use Prim.Native.Nat.{ℕ, zero, suc, _+_, _≤_, _<_}
+use Prim.Native.Nat.{ℕ, zero, suc, _+_, _≤_, _<_, zero-le}
 use native.Mathlib.Nat.{add-zero, add-suc, le-refl, le-trans, le-of-suc-le-suc, lt-of-not-le}
 use native.Mathlib.Omega.{arith}
 use mathlib.Core.Path.{_≡_, refl, sym, ap, _∙_}
@@ -9,10 +9,10 @@ use mathlib.Core.List.{List, [], _∷_, _++_}
 use mathlib.Core.Logic.{_⊎_, inl, inr}
 use lib.Dec.{leb, ltb, eqb}
 use lib.Ieee.{Float}
-use lib.ListN.{length, take, length-take}
+use lib.ListN.{length}
 use borrow.Author.Tests.{eqb-true, ltb-false, eq-eqb, ne-eqb, le-leb}
 use Rattle.keys.specs.Keys.{allKeys, digitsOf}
-use Rattle.keys.proofs.Line.{all-digits, all-taken, padded-front}
+use Rattle.keys.proofs.Line.{all-digits, digits-fewer, padded-front}
 use Rattle.stage.specs.Stage.{stageOf, stageNumber}
 use Rattle.overture.specs.Iteration.{fresh, after, samples}
 use Rattle.overture.proofs.Iteration.{samples-add}
@@ -36,7 +36,7 @@ use Rattle.set.specs.Sound.{sound}
 use Rattle.set.proofs.Kept.{after-sound}
 use Rattle.set.specs.Book.{typing, time, forcing, filling, Book, blank, overture, lengthOf, stageOfSample, typingRefusal, fillRefusal, fedBy, lapsedBy, obeyed, shownBy, lit, filledIn, unlessDeclined, entered}
 use Rattle.claim.specs.Claim.{fill, other, turnOf, turnUnlessDeclined, turn, Since, notCalled, noted, AllAtMost, NeverBack}
-use Rattle.set.proofs.Reached.{stageIn, reached}
+use Rattle.set.proofs.Reached.{stageIn, reached, few-typed}
 
 at-most : (a b : ℕ) (stages : List ℕ) → a ≤ b → AllAtMost a stages → AllAtMost b stages
 at-most a b [] h p = tt
@@ -246,12 +246,9 @@ module _ (r : ℕ) where
     other-kept Connected digits count shown h k left c =
         record { called = c .called; past = c .past; most = c .most; rising = c .rising; wrote = c .wrote; sum = c .sum }
 
-    dialled-ok : (line : List ℕ) → digitsOk (take 76 (digitsOf line)) ≡ true
+    dialled-ok : (line : List ℕ) → length line ≤ 76 → digitsOk (digitsOf line) ≡ true
     unfolding digitsOk
-    dialled-ok line = rw (le-leb _ _ (few (digitsOf line)), all-taken 76 (digitsOf line) (all-digits line))
-      where
-        few : (digits : List ℕ) → length (take 76 digits) ≤ 76
-        few digits = rw length-take (omega arith)
+    dialled-ok line short = rw (le-leb _ _ (le-trans (digits-fewer line) short), all-digits line)
 
     module _ (k : Book) (h : Since) (kept : Kept k h) where
       declined-kept : (left : List Float) → Kept k (noted other r k left (k .state) (k .shown) h)
@@ -263,22 +260,22 @@ module _ (r : ℕ) where
             course = other-kept (k .state) (k .digits) (k .count) (k .shown) h k left (kept .course);
           }
 
-      obeyed-kept : (c : Control) (line : List ℕ) (p : AtProcessor) → processor.sound p ≡ true
+      obeyed-kept : (c : Control) (line : List ℕ) (p : AtProcessor) → length line ≤ 76 → processor.sound p ≡ true
           → Kept (obeyed c line p k) (noted (turnOf c) r k [] (obeyed c line p k .state) (obeyed c line p k .shown) h)
       unfolding digitsOk allKeys samples
-      obeyed-kept Nothing line p good =
+      obeyed-kept Nothing line p short good =
           record {
             processor = good;
             digits = kept .digits;
             shown = kept .shown;
             course = other-kept (k .state) (k .digits) (k .count) (k .shown) h k [] (kept .course);
           }
-      obeyed-kept Answer line p good = record { processor = good; digits = refl; shown = omega arith; course = (refl, refl) }
-      obeyed-kept Hangup line p good = record { processor = good; digits = refl; shown = omega arith; course = (refl, refl) }
-      obeyed-kept Dial line p good =
+      obeyed-kept Answer line p short good = record { processor = good; digits = refl; shown = omega arith; course = (refl, refl) }
+      obeyed-kept Hangup line p short good = record { processor = good; digits = refl; shown = omega arith; course = (refl, refl) }
+      obeyed-kept Dial line p short good =
           record {
             processor = good;
-            digits = dialled-ok line;
+            digits = dialled-ok line short;
             shown = omega arith;
             course = record {
               called = refl;
@@ -292,12 +289,12 @@ module _ (r : ℕ) where
             };
           }
 
-      typing-by : (room full : Bool) (c : Control) (line : List ℕ) (p : AtProcessor) → processor.sound p ≡ true
+      typing-by : (room full : Bool) (c : Control) (line : List ℕ) (p : AtProcessor) → length line ≤ 76 → processor.sound p ≡ true
           → let next = unlessDeclined (typingRefusal room full) k (obeyed c line p k) in
           Kept next (noted (turnUnlessDeclined (typingRefusal room full) (turnOf c)) r k [] (next .state) (next .shown) h)
-      typing-by false full c line p good = declined-kept []
-      typing-by true true c line p good = declined-kept []
-      typing-by true false c line p good = obeyed-kept c line p good
+      typing-by false full c line p short good = declined-kept []
+      typing-by true true c line p short good = declined-kept []
+      typing-by true false c line p short good = obeyed-kept c line p short good
 
       pub typing-kept : (byte : ℕ) (carrier : Bool) (room : ℕ)
           → let next = entered r k (typing byte carrier room) in
@@ -306,6 +303,7 @@ module _ (r : ℕ) where
       typing-kept byte carrier room =
           let fed = fedBy k byte carrier room in
           typing-by (leb 4 room) (lineFull (k .processor) byte) (fed .control) (afterAtdt fed) (fed .processor)
+          (few-typed k (kept .processor) byte carrier room)
           (sound-typed (k .processor) byte _ room (kept .processor))
 
       pub time-kept : (ns : ℕ) (carrier : Bool)
@@ -313,13 +311,13 @@ module _ (r : ℕ) where
           Kept next (noted (turn k (time ns carrier)) r k [] (next .state) (next .shown) h)
       unfolding entered
       time-kept ns carrier =
-          obeyed-kept (lapsedBy k ns carrier .control) [] (lapsedBy k ns carrier .processor) (sound-lapse (k .processor) ns _ (kept .processor))
+          obeyed-kept (lapsedBy k ns carrier .control) [] (lapsedBy k ns carrier .processor) zero-le (sound-lapse (k .processor) ns _ (kept .processor))
 
       pub forcing-kept :
           let next = entered r k forcing in
           Kept next (noted (turn k forcing) r k [] (next .state) (next .shown) h)
       unfolding entered
-      forcing-kept = obeyed-kept Nothing [] (forcedData (k .processor)) (sound-forced (k .processor) (kept .processor))
+      forcing-kept = obeyed-kept Nothing [] (forcedData (k .processor)) zero-le (sound-forced (k .processor) (kept .processor))
 
     filling-by : (b : ℕ) (left : List Float) (h : Since) (long : Bool) → ltb 65536 b ≡ long
         → (p : AtProcessor) (state : SessionState) (digits : List ℕ) (count shown : ℕ)

@@ -1,12 +1,9 @@
--- A dial line begins with ATDT, for no other row of the commands gives it; its bytes after ATDT are a part of the array.
--- Assumes nothing.
-use Prim.Native.Nat.{ℕ, _+_, _-_, _≤_}
-use native.Mathlib.Omega.{arith}
+-- A dial line begins with ATDT, for no other row of the commands gives it, so it has four bytes or more. Assumes nothing.
+use Prim.Native.Nat.{ℕ, _≤_}
 use mathlib.Core.Path.{_≡_, refl}
 use mathlib.Core.List.{List}
 use mathlib.Core.Bool.{Bool, true, false, _||_}
-use lib.ListN.{length, take, drop}
-use lib.Seq.{take-add, drop-at, length-take-le}
+use lib.ListN.{length}
 use Rattle.ascii.specs.Ascii.{ascii}
 use Rattle.command.specs.declared.Command.the-variants.{At, Atz, Ati, Ata, Ath, Ato, Atdt, Unknown}
 use Rattle.command.specs.Command.{begins, is, read, commandOf}
@@ -27,11 +24,3 @@ unfolding commandOf
 dial-long line e =
     begins-long (ascii "ATDT") line
     (last-row (is (ascii "AT") line) (is (ascii "ATZ") line) (is (ascii "ATI") line) (is (ascii "ATA") line) (is (ascii "ATH") line || is (ascii "ATH0") line) (is (ascii "ATO") line || is (ascii "ATO0") line) (begins (ascii "ATDT") line) e)
-
-part : (bytes : List ℕ) (k : ℕ) → 4 ≤ length bytes → drop 4 (take (4 + k) bytes) ≡ take k (drop 4 bytes)
-part bytes k l = rw (take-add 4 k bytes) (drop-at (take 4 bytes) _ 4 (length-take-le 4 bytes l))
-
-pub digits-part : (bytes : List ℕ) (len : ℕ) → 4 ≤ len → 4 ≤ length bytes → drop 4 (take len bytes) ≡ take (len - 4) (drop 4 bytes)
-digits-part bytes len h l =
-    let e : 4 + (len - 4) ≡ len = omega arith in
-    rw e at (part bytes (len - 4) l)

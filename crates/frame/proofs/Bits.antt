@@ -47,10 +47,7 @@ module _ (p : List ℕ) (k : ℕ) where
   unfolding bitAt
   bit-past h = List·getD-eq-default (framed p) true (omega (arith, framed-length p))
 
-  pub bit-element : (d : Bool) → k < length (framed p) → bitAt p k ≡ getD (framed p) k d
-  unfolding bitAt
-  bit-element d h = within (framed p) k true d h
-
+-- how many bits each payload has: 60, 80 and 300 in the stages are all of them
 pub ci-length : length (framed ciPayload) ≡ 60
 ci-length = framed-length ciPayload
 

@@ -7,6 +7,7 @@ use Rattle.math.specs.Float.{f64, one}
 use Rattle.math.specs.Narrow.{narrowed}
 use Rattle.math.proofs.Constants.{tie-down, tie-up}
 use Rattle.keys.specs.Keys.{digitsOf, keysOf, isKey, keyRow, upper}
+use Rattle.keys.proofs.Line.{dials-12}
 use Rattle.schedule.specs.Time.{samplesIn}
 use Rattle.schedule.specs.Length.{clickTime, diallingLength}
 use Rattle.schedule.proofs.Cases.{click-at-8000, no-digits-at-8000, two-digits-at-8000, three-digits-at-8000}
@@ -39,10 +40,6 @@ pub record ProvingCases : Type 0 where
   -- 1 + 2^-24 narrows to 1; 1 + 3 × 2^-24 to 1 + 2^-22
   pub narrowing : (narrowed (f64 0x3ff0_0000_1000_0000) ≡ one) × (narrowed (f64 0x3ff0_0000_3000_0000) ≡ f64 0x3ff0_0000_4000_0000)
 
-two-keys : digitsOf (ascii "12") ≡ ascii "12"
-unfolding digitsOf keysOf isKey keyRow upper
-two-keys = refl
-
 four-keys : digitsOf (ascii "ABCDEF") ≡ ascii "ABCD"
 unfolding digitsOf keysOf isKey keyRow upper
 four-keys = refl
@@ -50,7 +47,7 @@ four-keys = refl
 pub proving-cases : ProvingCases
 proving-cases =
     record {
-      dial-12 = (atdt12 .0, rw (atdt12 .1) two-keys);
+      dial-12 = (atdt12 .0, rw (atdt12 .1) dials-12);
       dial-abcd = (atdtabcdef .0, rw (atdtabcdef .1) four-keys);
       no-dial = (atdp1, at-dt1);
       plus = first-plus;

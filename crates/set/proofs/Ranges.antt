@@ -24,6 +24,12 @@ module _ (s : Set) (h : sound s ≡ true) where
   unfolding sound
   sound-digits = leb-true _ _ (left (leb (s .session .digits .len) 76) _ h)
 
+  pub sound-processor : processor.sound (s .processor) ≡ true
+  unfolding sound
+  sound-processor =
+      left (processor.sound (s .processor)) _
+      (right (soundState (s .session .stage) (digitsHeld (s .session)) (s .rate)) _ (right (leb (s .session .digits .len) 76) _ h))
+
   pub sound-count : s .session .m ≤ 5000000
   unfolding sound
   sound-count =

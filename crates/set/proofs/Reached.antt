@@ -1,6 +1,6 @@
 -- The set that a book stands for, and that each call, by its own contract, takes it to the set that the book's next entry stands for. By cases
 -- of the causes, the control and the state. Assumes nothing.
-use Prim.Native.Nat.{ℕ, zero, suc, _+_}
+use Prim.Native.Nat.{ℕ, zero, suc, _+_, _≤_, zero-le}
 use native.Mathlib.Nat.{add-suc}
 use mathlib.Core.Path.{_≡_, refl, sym, ap, _∙_}
 use mathlib.Core.Bool.{Bool, true, false}
@@ -9,7 +9,7 @@ use lib.Dec.{leb, ltb, eqb}
 use lib.Ieee.{Float}
 use lib.ListN.{length, take}
 use Rattle.keys.specs.Keys.{held, padded, digitsOf}
-use Rattle.keys.proofs.Line.{padded-front}
+use Rattle.keys.proofs.Line.{digits-whole, padded-front}
 use Rattle.stage.specs.declared.Stage.{Stage}
 use Rattle.stage.specs.declared.StageState.{StageState}
 use Rattle.stage.specs.declared.StageState.the-variants as at
@@ -19,7 +19,9 @@ use Rattle.overture.proofs.Iteration.{after-add}
 use Rattle.at.specs.declared.AtProcessor.{AtProcessor}
 use Rattle.at.specs.declared.Control.{Control}
 use Rattle.at.specs.declared.Control.the-variants.{Nothing, Dial, Answer, Hangup}
+use Rattle.at.specs.Processor as processor
 use Rattle.at.specs.At.{afterAtdt, lineFull}
+use Rattle.at.proofs.Lines.{line-ended}
 use Rattle.session.specs.declared.Session.{Session}
 use Rattle.session.specs.declared.SessionState.{SessionState}
 use Rattle.session.specs.declared.SessionState.the-variants.{Idle, Dialling, Answering, Connected}
@@ -28,9 +30,11 @@ use Rattle.set.specs.declared.Set.{Set}
 use Rattle.set.specs.declared.Refusal.{Refusal}
 use Rattle.set.specs.Refusals.{refusalNumber}
 use Rattle.set.specs.Sound.{sound}
-use Rattle.control.specs.Control.{heard, controlled}
+use Rattle.control.specs.Control.{heardIn, heard, controlled}
+use Rattle.control.proofs.Prefix.{few-after}
 use Rattle.set.specs.Set.{typedIf, typed, lapsed, forced, isUp, fillIf, fill, buffer}
 use Rattle.set.specs.Book.{Call, typing, time, forcing, filling, Book, stageOfSample, typingRefusal, fillRefusal, declinedWith, fedBy, lapsedBy, obeyed, shownBy, lit, filledIn, unlessDeclined, entered}
+use Rattle.set.proofs.Ranges.{sound-processor}
 
 -- where nothing is dialled no samples are to come; else the state is `count` samples into the overture
 abbrev pub stageIn : SessionState → ℕ → List ℕ → ℕ → StageState
@@ -52,21 +56,32 @@ sessionOf r k =
 unfoldable pub reached : ℕ → Book → Set
 reached r k = record { rate = r; processor = k .processor; session = sessionOf r k }
 
--- ---- what the AT processor asks
-obeys : (r : ℕ) (k : Book) (c : Control) (line : List ℕ) (p : AtProcessor)
+-- ---- what the AT processor asks: a line has at most 76 bytes after ATDT, so no digit is lost
+pub few-typed : (k : Book) → processor.sound (k .processor) ≡ true → (byte : ℕ) (carrier : Bool) (room : ℕ) → length (afterAtdt (fedBy k byte carrier room)) ≤ 76
+few-typed k good byte carrier room =
+    few-after (fedBy k byte carrier room) (line-ended (k .processor) byte (heardIn (k .state) carrier) room good .fits)
+
+obeys : (r : ℕ) (k : Book) (c : Control) (line : List ℕ) (p : AtProcessor) → length line ≤ 76
     → _≡_ {A = Set} (record { rate = r; processor = p; session = controlled c (sessionOf r k) line r }) (reached r (obeyed c line p k))
 unfolding controlled dialling idle answering reached after
-obeys r k Nothing line p = refl
-obeys r k Answer line p = refl
-obeys r k Hangup line p = refl
-obeys r k Dial line p =
+obeys r k Nothing line p short = refl
+obeys r k Answer line p short = refl
+obeys r k Hangup line p short = refl
+obeys r k Dial line p short =
     ap
     (λ (digits : List ℕ). record {
       rate = r;
       processor = p;
-      session = record { state = Dialling; digits = held (take 76 (digitsOf line)); m = 0; shown = 0; stage = fresh digits r };
+      session = record { state = Dialling; digits = held digits; m = 0; shown = 0; stage = fresh (take (length digits) (padded digits)) r };
     })
-    (padded-front (take 76 (digitsOf line)))
+    (digits-whole line short)
+    ∙ ap
+    (λ (digits : List ℕ). record {
+      rate = r;
+      processor = p;
+      session = record { state = Dialling; digits = held (digitsOf line); m = 0; shown = 0; stage = fresh digits r };
+    })
+    (padded-front (digitsOf line))
 
 -- ---- a fill in Dialling
 shown-stage : (digits : List ℕ) (r count b : ℕ)
@@ -133,14 +148,14 @@ pub record Follows (r : ℕ) (k : Book) (call : Call) (next : Set) (refusal : Re
   pub number : refusalNumber refusal ≡ declinedWith k call
 
 module _ (r : ℕ) (k : Book) where
-  typing-by : (room full : Bool) (byte : ℕ) (carrier : Bool) (n : ℕ)
+  typing-by : (room full : Bool) (byte : ℕ) (carrier : Bool) (n : ℕ) → length (afterAtdt (fedBy k byte carrier n)) ≤ 76
       → (typedIf true room full (reached r k) byte carrier n .set
       ≡ reached r (unlessDeclined (typingRefusal room full) k (obeyed (fedBy k byte carrier n .control) (afterAtdt (fedBy k byte carrier n)) (fedBy k byte carrier n .processor) k)))
       × (refusalNumber (typedIf true room full (reached r k) byte carrier n .refusal) ≡ typingRefusal room full)
   unfolding reached refusalNumber heard
-  typing-by false full byte carrier n = (refl, refl)
-  typing-by true true byte carrier n = (refl, refl)
-  typing-by true false byte carrier n = (obeys r k (fedBy k byte carrier n .control) _ _, refl)
+  typing-by false full byte carrier n short = (refl, refl)
+  typing-by true true byte carrier n short = (refl, refl)
+  typing-by true false byte carrier n short = (obeys r k (fedBy k byte carrier n .control) _ _ short, refl)
 
   filling-by : (long : Bool) (p : AtProcessor) (state : SessionState) (digits : List ℕ) (count shown b : ℕ)
       → let book : Book = record { processor = p; state = state; digits = digits; count = count; shown = shown } in
@@ -160,14 +175,14 @@ module _ (r : ℕ) (k : Book) where
         → Follows r k (typing byte carrier n) (typed (reached r k) byte carrier n .set) (typed (reached r k) byte carrier n .refusal)
     unfolding typed entered reached
     typing-follows byte carrier n =
-        let q = typing-by (leb 4 n) (lineFull (k .processor) byte) byte carrier n in
+        let q = typing-by (leb 4 n) (lineFull (k .processor) byte) byte carrier n (few-typed k (sound-processor (reached r k) ok) byte carrier n) in
         record { set = rw ok (q .0); number = rw ok (q .1) }
 
     pub time-follows : (ns : ℕ) (carrier : Bool) → Follows r k (time ns carrier) (lapsed (reached r k) ns carrier .set) (lapsed (reached r k) ns carrier .refusal)
     unfolding lapsed entered reached refusalNumber heard
     time-follows ns carrier =
         record {
-          set = rw ok (obeys r k (lapsedBy k ns carrier .control) [] (lapsedBy k ns carrier .processor));
+          set = rw ok (obeys r k (lapsedBy k ns carrier .control) [] (lapsedBy k ns carrier .processor) zero-le);
           number = rw ok;
         }
 

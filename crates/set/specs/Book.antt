@@ -4,7 +4,7 @@ use mathlib.Core.Bool.{Bool, true, false}
 use mathlib.Core.List.{List, []}
 use lib.Dec.{leb, ltb, eqb}
 use lib.Ieee.{Float}
-use lib.ListN.{length, take}
+use lib.ListN.{length}
 use Rattle.keys.specs.Keys.{digitsOf}
 use Rattle.schedule.specs.Length.{total}
 use Rattle.stage.specs.Stage.{stageOf, stageNumber}
@@ -81,7 +81,7 @@ abbrev pub obeyed : Control → List ℕ → AtProcessor → Book → Book
 obeyed Nothing line p k = record { processor = p; state = k .state; digits = k .digits; count = k .count; shown = k .shown }
 obeyed Answer line p k = record { processor = p; state = Answering; digits = []; count = 0; shown = 0 }
 obeyed Hangup line p k = record { processor = p; state = Idle; digits = []; count = 0; shown = 0 }
-obeyed Dial line p k = record { processor = p; state = Dialling; digits = take 76 (digitsOf line); count = 0; shown = 0 }
+obeyed Dial line p k = record { processor = p; state = Dialling; digits = digitsOf line; count = 0; shown = 0 }
 
 -- ---- a fill of b samples in Dialling
 -- the shown stage is then that of sample count, or, with b = 0, that of sample count + 1

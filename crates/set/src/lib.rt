@@ -106,7 +106,7 @@ fn fresh(rate: u32) -> Set
     }
 }
 
-// A call on a set that is not sound, or whose cause 01 lists.
+// The answer to a typed byte that is declined.
 fn declined(set: Set, refusal: Refusal) -> Typed
     ensures { λ r. ⌜ r ≡ byteDeclined refusal set ⌝ }
 {

@@ -160,12 +160,6 @@ pub sound-made : (s : StageState) (digits : List ℕ) (r : ℕ) → SoundParts s
 unfolding soundState
 sound-made s digits r p = rw (p .rate, p .keys) (is-true (stateOk s (length digits) r) (p .state))
 
--- one sample on, the stage going on
-pub generated-sound : (s : StageState) (digits : List ℕ) (r : ℕ) → Held s → soundState s digits r ≡ true → generateOf s digits r .finished ≡ false → soundState (generateOf s digits r .state) digits r ≡ true
-generated-sound s digits r h e f =
-    let p = sound-apart s digits r e in
-    sound-made _ digits r (record { rate = p .rate; keys = p .keys; state = generated-ok r (rate-low r (p .rate)) (rate-high r (p .rate)) s digits (digits-few digits (p .keys)) h (p .state) f })
-
 -- one sample on, the next stage entered where one ends
 pub next-sound : (s : StageState) (digits : List ℕ) (r : ℕ) → Held s → soundState s digits r ≡ true → soundState (stateNext s digits r) digits r ≡ true
 next-sound s digits r h e =

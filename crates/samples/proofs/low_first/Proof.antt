@@ -1,4 +1,4 @@
--- `samples::low_first` meets its contract. Assumes nothing.
+-- `samples::low_first` meets its contract: four times a rest and a quotient, computed. Assumes nothing.
 use mathlib.Core.Path.{refl}
 use borrow.Author.Needs.{needs}
 use Rattle.samples.specs.Bytes.{lowFirst}

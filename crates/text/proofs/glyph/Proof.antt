@@ -1,4 +1,4 @@
--- `text::glyph` meets its contract. Assumes nothing.
+-- `text::glyph` meets its contract: by whether the digit is below 10. Assumes nothing.
 use borrow.Author.Needs.{needs}
 use borrow.Author.Tests.{lt-ltb, le-ltb}
 use Rattle.text.specs.Digits.{glyphOf, glyphIf}

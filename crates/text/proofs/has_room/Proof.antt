@@ -1,4 +1,4 @@
--- `text::has_room` meets its contract. Assumes nothing.
+-- `text::has_room` meets its contract: by each test the sum is above the room or within it. Assumes nothing.
 use Prim.Native.Nat.{_+_}
 use mathlib.Core.Path.{sym}
 use native.Mathlib.Omega.{arith}

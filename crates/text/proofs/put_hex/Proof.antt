@@ -1,4 +1,4 @@
--- `text::put_hex` meets its contract. Assumes nothing.
+-- `text::put_hex` meets its contract, by that of `put_digits` in base 16. Assumes nothing.
 use borrow.Author.Needs.{needs}
 use Rattle.text.proofs.put_hex.Statement.{statement}
 use Rattle.text.proofs.put_hex.Tie as tie

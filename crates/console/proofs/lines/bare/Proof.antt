@@ -1,4 +1,4 @@
--- `console::lines::bare` meets its contract. Assumes nothing.
+-- `console::lines::bare` meets its contract: by the letter, D or another. Assumes nothing.
 use borrow.Author.Tests.{eq-eqb, ne-eqb}
 use Rattle.console.specs.Lines.{bareCall}
 use Rattle.console.proofs.lines.bare.Statement.{statement}

@@ -1,4 +1,4 @@
--- `console::lines::fill` meets its contract. Assumes nothing.
+-- `console::lines::fill` meets its contract: by whether the length is above the longest. Assumes nothing.
 use borrow.Author.Needs.{needs}
 use borrow.Author.Tests.{le-leb, lt-leb}
 use Rattle.console.specs.Lines.{fillCall, fillIf}

@@ -1,4 +1,4 @@
--- `console::lines::one` meets its contract. Assumes nothing.
+-- `console::lines::one` meets its contract: by the letter, R, F or another. Assumes nothing.
 use borrow.Author.Needs.{needs}
 use borrow.Author.Tests.{eq-eqb, ne-eqb}
 use Rattle.console.specs.Lines.{oneCall}

@@ -1,4 +1,4 @@
--- `console::lines::three` meets its contract. Assumes nothing.
+-- `console::lines::three` meets its contract: by whether it is a T of `tap --ext`. Assumes nothing.
 use borrow.Author.Needs.{needs}
 use Rattle.console.specs.Lines.{threeCall}
 use Rattle.console.proofs.lines.three.Statement.{statement}

@@ -1,4 +1,4 @@
--- `console::lines::two` meets its contract. Assumes nothing.
+-- `console::lines::two` meets its contract: by the letter, T, W or another. Assumes nothing.
 use borrow.Author.Needs.{needs}
 use borrow.Author.Tests.{eq-eqb, ne-eqb}
 use Rattle.console.specs.Lines.{twoCall}

@@ -1,4 +1,4 @@
--- `samples::fnv::hash_byte` meets its contract. Assumes nothing.
+-- `samples::fnv::hash_byte` meets its contract, by that of `times_prime`. Assumes nothing.
 use borrow.Author.Needs.{needs}
 use Rattle.samples.specs.Fnv.{hashedOf}
 use Rattle.samples.proofs.fnv.hash_byte.Statement.{statement}

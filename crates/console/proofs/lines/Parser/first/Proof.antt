@@ -1,4 +1,4 @@
--- `console::lines::Parser::first` meets its contract. Assumes nothing.
+-- `console::lines::Parser::first` meets its contract: by whether a byte came before. Assumes nothing.
 use borrow.Author.Needs.{needs}
 use Rattle.console.specs.Parser.{letterOf, letterIf}
 use Rattle.console.proofs.lines.Parser.first.Statement.{statement}
