@@ -1,3 +1,4 @@
--- The bytes of a fixed text, and a buffer that bytes were written to.
+-- The bytes of a fixed text, a buffer that bytes were written to, and a byte in upper case.
 pub mod Ascii
 pub mod Front
+pub mod Upper

@@ -1,7 +1,8 @@
-// Fixed texts as bytes, and a writer of them.
+// Fixed texts as bytes, a writer of them, and a byte in upper case.
 ghost use mathlib.Core.Path.{_≡_};
 ghost use lib.ListN.{length};
 ghost use Rattle.ascii.specs.Front.{put, putLength};
+ghost use Rattle.ascii.specs.Upper.{upper};
 
 // Copies `text` to the front of `out` where it fits whole, and answers its length; else 0.
 pub fn put_front(text: &[u8], out: &mut [u8]) -> usize
@@ -17,4 +18,13 @@ pub fn put_front(text: &[u8], out: &mut [u8]) -> usize
         i += 1;
     }
     i
+}
+
+pub fn uppercase(b: u8) -> u8
+    ensures { λ r. ⌜ r ≡ upper b ⌝ }
+{
+    match b {
+        b'a'..=b'z' => b - 32,
+        _ => b,
+    }
 }

@@ -6,10 +6,11 @@ use mathlib.Core.Path.{_≡_, refl}
 use mathlib.Core.List.{List, [], _∷_}
 use mathlib.Core.Bool.{true, false}
 use Rattle.ascii.specs.Ascii.{ascii}
+use Rattle.ascii.specs.Upper.{upper}
 use Rattle.reply.specs.declared.Code.the-variants.{NoCarrier, Error}
 use Rattle.reply.specs.declared.Reply.{Reply}
 use Rattle.reply.specs.declared.Reply.the-variants.{None, One}
-use Rattle.command.specs.Line.{pushed, upper, uppercased}
+use Rattle.command.specs.Line.{pushed, uppercased}
 use Rattle.command.specs.Command.{begins, is, commandOf}
 use Rattle.at.specs.declared.AtProcessor.{AtProcessor}
 use Rattle.at.specs.declared.Control.the-variants.{Dial}

@@ -1,6 +1,5 @@
 // Makes a call as a theatre's machine does: types the dial line, fills buffers of uneven lengths until
 // the line is up, writes what the house hears to a WAV file, and prints when each stage came.
-
 mod play;
 mod stages;
 mod table;

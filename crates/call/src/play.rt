@@ -66,7 +66,7 @@ pub fn is_dialling(set: Set) -> bool {
 }
 
 // Makes the fills from the dial line on, and writes their first `total` samples to a file, behind the
-// header. A proved loop has to end: no call has as many turns as this one counts down.
+// header.
 pub fn record(file: i32, set: Set, total: u32, samples: &mut [f32]) -> bool {
     let mut bytes = [0u8; 16384];
     let header = samples::wav::header(total, set.rate());
@@ -80,6 +80,7 @@ pub fn record(file: i32, set: Set, total: u32, samples: &mut [f32]) -> bool {
     end.good
 }
 
+// A proved loop has to end: no call has as many turns as this one allows.
 fn record_all(file: i32, reel: Reel, samples: &mut [f32], bytes: &mut [u8]) -> Reel {
     let mut r = reel;
     let mut turn: u32 = 0;

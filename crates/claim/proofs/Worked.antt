@@ -16,9 +16,9 @@ use Rattle.passage.specs.Overture.{HasLength}
 use Rattle.passage.proofs.Way.{overture-length}
 use Rattle.passage.proofs.Connected.{connected-exactly}
 use Rattle.ascii.specs.Ascii.{ascii}
+use Rattle.ascii.specs.Upper.{upper}
 use Rattle.keys.specs.Keys.{digitsOf, keysOf, isKey, keyRow}
-use Rattle.keys.specs.Keys as keys
-use Rattle.command.specs.Line.{pushed, upper, uppercased}
+use Rattle.command.specs.Line.{pushed, uppercased}
 use Rattle.command.specs.Command.{begins, is, commandOf}
 use Rattle.at.specs.Command.{executed}
 use Rattle.at.specs.At.{ended, commandByte, typedByte, lineFull}
@@ -40,7 +40,7 @@ abbrev pub dial12 : List Call
 dial12 = map (λ (byte : ℕ). typing byte false 4) (ascii "ATDT12\r")
 
 pub dialled : (bookAfter 8000 blank dial12 .state ≡ Dialling) × (bookAfter 8000 blank dial12 .digits ≡ ascii "12") × (bookAfter 8000 blank dial12 .count ≡ 0)
-unfolding entered typedByte commandByte ended pushed upper uppercased begins is commandOf executed lineFull digitsOf keysOf isKey keyRow keys.upper
+unfolding entered typedByte commandByte ended pushed upper uppercased begins is commandOf executed lineFull digitsOf keysOf isKey keyRow
 dialled = (refl, refl, refl)
 
 -- T, for 12 at 8,000

@@ -1,10 +1,10 @@
 -- 01, "The AT processor": the command line. Lines have at most 80 bytes.
-use Prim.Native.Nat.{ℕ, _+_, _-_}
-use Prim.Native.Char.{code}
+use Prim.Native.Nat.{ℕ, _+_}
 use mathlib.Core.List.{List, map}
-use mathlib.Core.Bool.{Bool, true, false, _&&_}
+use mathlib.Core.Bool.{Bool, true, false}
 use lib.ListN.{take, set, replicate}
-use lib.Dec.{leb, ltb}
+use lib.Dec.{ltb}
+use Rattle.ascii.specs.Upper.{upper}
 use Rattle.command.specs.declared.Line.{Line}
 
 abbrev pub emptyLine : Line
@@ -21,14 +21,6 @@ pushedIf false l b = l
 
 unfoldable pub pushed : Line → ℕ → Line
 pushed l b = pushedIf (ltb (l .len) 80) l b
-
--- a to z become A to Z
-abbrev pub upperIf : Bool → ℕ → ℕ
-upperIf true b = b - 32
-upperIf false b = b
-
-unfoldable pub upper : ℕ → ℕ
-upper b = upperIf (leb (code "a") b && leb b (code "z")) b
 
 -- the line, uppercased
 unfoldable pub uppercased : Line → Line

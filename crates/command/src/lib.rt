@@ -3,7 +3,7 @@
 ghost use mathlib.Core.Path.{_≡_};
 ghost use Prim.Native.Nat.{_≤_, _<_};
 ghost use lib.ListN.{length};
-ghost use Rattle.command.specs.Line.{emptyLine, typed, pushed, upper, uppercased};
+ghost use Rattle.command.specs.Line.{emptyLine, typed, pushed, uppercased};
 ghost use Rattle.command.specs.Command.{begins, is, commandOf};
 
 // A command line: the first `len` of its bytes.
@@ -22,18 +22,6 @@ pub enum Command {
     Ato,
     Atdt,
     Unknown,
-}
-
-fn uppercase(byte: u8) -> u8
-    ensures { λ r. ⌜ r ≡ upper byte ⌝ }
-{
-    if byte < b'a' {
-        return byte;
-    }
-    if byte > b'z' {
-        return byte;
-    }
-    byte - 32
 }
 
 impl Line {
@@ -66,7 +54,7 @@ impl Line {
         let mut bytes = self.bytes;
         let mut i = 0;
         while i < 80 {
-            bytes[i] = uppercase(bytes[i]);
+            bytes[i] = ascii::uppercase(bytes[i]);
             i += 1;
         }
         Line {

@@ -5,7 +5,7 @@ use mathlib.Core.Path.{_≡_, refl}
 use Rattle.console.specs.declared.lines.Call.{Call}
 use Rattle.console.specs.declared.lines.Call.the-variants.{Rate, Typed, Lapse, Fill, ForcedData, Other}
 use Rattle.console.specs.Lines.{cut, fieldsOf, allDigits, valueFrom, numberIf, numberOf, also, numbersOf, fillIf, fillCall, typedIf, typedCall, lapseIf, lapseCall, bareCall, oneCall, twoCall, threeCall, numbersCall, letterCall, fieldsCall, callOf}
-use Rattle.text.specs.Ascii.{ascii}
+use Rattle.ascii.specs.Ascii.{ascii}
 
 -- a line of `wall`, and of `tap --ext`
 plain : String → Call

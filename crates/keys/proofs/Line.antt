@@ -8,7 +8,8 @@ use mathlib.Core.Bool.{Bool, true, false, cond, _&&_, and-true, and-assoc}
 use mathlib.Core.List.{List, [], _∷_, _++_, map, append-nil, append-assoc, map-append}
 use lib.ListN.{length, getD, take, set, replicate, length-append, length-take, length-map, length-replicate}
 use lib.Seq.{take-suc, take-all, take-append-le, set-at, take-at}
-use Rattle.keys.specs.Keys.{isKey, keyRow, upper, keysOf, digitsOf, allKeys, padded}
+use Rattle.ascii.specs.Upper.{upper}
+use Rattle.keys.specs.Keys.{isKey, keyRow, keysOf, digitsOf, allKeys, padded}
 
 -- ---- of the keys among some bytes
 

@@ -2,10 +2,11 @@
 use Prim.Native.Nat.{ℕ, suc, _-_}
 use mathlib.Core.Bool.{Bool, true, false, cond, _&&_, _||_}
 use mathlib.Core.List.{List, [], _∷_, _++_, map}
-use lib.Dec.{eqb, leb, ltb}
+use lib.Dec.{eqb, ltb}
 use lib.Ieee.{Float, binary64, ofInt}
 use lib.IntN.{pos}
 use lib.ListN.{length, getD, take, replicate}
+use Rattle.ascii.specs.Upper.{upper}
 use Rattle.keys.specs.declared.Tones.{Tones}
 use Rattle.keys.specs.declared.Tones.the-variants.{Key, NoKey}
 use Rattle.keys.specs.declared.Digits.{Digits}
@@ -62,10 +63,6 @@ tonesAt false row column = NoKey
 -- a key's tones are those of its row and its column
 unfoldable pub tonesOf : ℕ → Tones
 tonesOf b = tonesAt (isKey b) (keyRow b) (keyColumn b)
-
--- ASCII's a to z become A to Z
-unfoldable pub upper : ℕ → ℕ
-upper b = cond (leb 97 b && leb b 122) (b - 32) b
 
 -- the keys among the bytes, others dropped
 unfoldable pub keysOf : List ℕ → List ℕ

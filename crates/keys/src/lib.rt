@@ -1,7 +1,7 @@
 // The keypad of Q.23, and the digits of a dial line.
 ghost use mathlib.Core.Path.{_≡_};
 ghost use Prim.Native.Nat.{_/_, _%_};
-ghost use Rattle.keys.specs.Keys.{keyRow, keyColumn, isKey, tonesOf, upper, allKeys, dialledOf};
+ghost use Rattle.keys.specs.Keys.{keyRow, keyColumn, isKey, tonesOf, allKeys, dialledOf};
 
 const ROWS: [f64; 4] = [697.0, 770.0, 852.0, 941.0];
 
@@ -62,15 +62,6 @@ pub fn dtmf_freqs(b: u8) -> Tones
     Tones::NoKey
 }
 
-pub fn uppercase(b: u8) -> u8
-    ensures { λ r. ⌜ r ≡ upper b ⌝ }
-{
-    match b {
-        b'a'..=b'z' => b - 32,
-        _ => b,
-    }
-}
-
 // The digits of a dial line's bytes after ATDT: uppercased, others dropped, order kept. A line has no more than 76 such bytes.
 pub fn dialled(line: &[u8]) -> Digits
     ensures { λ r. ⌜ r ≡ dialledOf (now (line .entry)) ⌝ }
@@ -79,7 +70,7 @@ pub fn dialled(line: &[u8]) -> Digits
     let mut len: usize = 0;
     let mut i: usize = 0;
     while i < line.len() {
-        let b = uppercase(line[i]);
+        let b = ascii::uppercase(line[i]);
         i += 1;
         if is_key(b) {
             if len < 76 {

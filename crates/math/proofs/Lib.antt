@@ -6,5 +6,7 @@ pub mod Narrowing
 pub mod Whole
 pub mod Bounds
 pub mod Wrapping
+pub mod Equal
+pub mod Units
 pub mod Constants
 pub mod Turns

@@ -68,7 +68,8 @@ pub record Turning (n : Nco) : Type 0 where
   pub phase-in : T (inTurn (n .phase))
   pub step-in : T (inTurn (n .step))
 
-advanced-fits : (step phase : Float) → T (fits binary64 (advanced step phase))
+-- the next phase is a number of the format
+pub advanced-fits : (step phase : Float) → T (fits binary64 (advanced step phase))
 unfolding advanced
 advanced-fits step phase = cond-fits binary64 (le tau (plus phase step)) (minus (plus phase step) tau) (plus phase step) (sub-fits binary64 (plus phase step) tau) (add-fits binary64 phase step)
 

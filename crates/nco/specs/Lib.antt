@@ -1,1 +1,2 @@
 pub mod Nco
+pub mod Lent

@@ -1,6 +1,8 @@
 // A numerically controlled oscillator. Its phase runs on when the frequency changes, so a change makes no click.
 ghost use mathlib.Core.Path.{_≡_};
-ghost use Rattle.nco.specs.Nco.{advanced, freshNco, retuned, sampleOf, steppedNco};
+ghost use Rattle.nco.specs.Nco.{advanced, freshNco, retuned, sampleOf, steppedNco, inTurn};
+
+pub mod lent;
 
 const TAU: f64 = 6.283185307179586;
 
@@ -14,6 +16,13 @@ pub struct Nco {
 pub struct Stepped {
     pub sample: f64,
     pub nco: Nco,
+}
+
+// A phase or a step is in [0, TAU).
+pub fn in_turn(x: f64) -> bool
+    ensures { λ r. ⌜ r ≡ inTurn x ⌝ }
+{
+    (x >= 0.0) & (x < TAU)
 }
 
 // The phase after one sample.

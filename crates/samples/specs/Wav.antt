@@ -3,7 +3,7 @@
 use Prim.Native.Nat.{ℕ, _+_, _*_}
 use mathlib.Core.List.{List, _++_}
 use Rattle.samples.specs.Bytes.{lowFirst}
-use Rattle.text.specs.Ascii.{ascii}
+use Rattle.ascii.specs.Ascii.{ascii}
 
 -- format, channels, rate, bytes a second, bytes a sample, bits a sample, extension
 unfoldable pub formatOf : ℕ → List ℕ

@@ -17,7 +17,7 @@ use Rattle.math.proofs.Whole.{floor-at}
 use Rattle.schedule.specs.Time.{timeAt}
 use Rattle.schedule.specs.Dialling.{digitPeriod, digitTone, digitAt, inTone}
 use Rattle.schedule.proofs.Samples.{rate-value}
-use Rattle.schedule.proofs.Units.{Near, near}
+use Rattle.math.proofs.Units.{Near, near}
 
 -- 0.2 and 0.1 in units of 2 ^ -72
 abbrev F : ℕ

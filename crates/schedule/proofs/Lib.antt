@@ -1,7 +1,6 @@
 pub mod Constants
 pub mod Count
 pub mod Samples
-pub mod Units
 pub mod Digits
 pub mod Runs
 pub mod Symbols

@@ -14,7 +14,7 @@ use Rattle.math.proofs.Error.{Rounded, round-at}
 use Rattle.math.proofs.Values.{zero-value, nat-value, div-by, add-at, sub-at, le-at}
 use Rattle.schedule.specs.Symbols.{symbolStep, symbolEnds, nextPhase, nextPhaseBy, phaseAfter, doneBy, doneAfter}
 use Rattle.schedule.proofs.Samples.{rate-value}
-use Rattle.schedule.proofs.Units.{Near, near}
+use Rattle.math.proofs.Units.{Near, near}
 
 one-value : HasValue one false (2 ^ 62) (2 ^ 62)
 unfolding ofBits

@@ -4,7 +4,7 @@ use stage::Stage;
 use stage::StageState;
 ghost use mathlib.Core.Path.{_≡_};
 ghost use Prim.Native.Nat.{_+_, _≤_, _<_, _^_};
-ghost use lib.ListN.{length, take};
+ghost use lib.ListN.{length};
 ghost use Rattle.schedule.specs.Length.{total};
 ghost use Rattle.schedule.specs.Bounds.{TotalBounds};
 ghost use Rattle.passage.specs.Overture.{HasLength};

@@ -3,10 +3,11 @@
 use mathlib.Core.Path.{_≡_, refl}
 use mathlib.Core.List.{[]}
 use Rattle.ascii.specs.Ascii.{ascii}
+use Rattle.ascii.specs.Upper.{upper}
 use Rattle.math.specs.Float.{f64, one}
 use Rattle.math.specs.Narrow.{narrowed}
 use Rattle.math.proofs.Constants.{tie-down, tie-up}
-use Rattle.keys.specs.Keys.{digitsOf, keysOf, isKey, keyRow, upper}
+use Rattle.keys.specs.Keys.{digitsOf, keysOf, isKey, keyRow}
 use Rattle.keys.proofs.Line.{dials-12}
 use Rattle.schedule.specs.Time.{samplesIn}
 use Rattle.schedule.specs.Length.{clickTime, diallingLength}

@@ -5,12 +5,13 @@ use Prim.Native.Nat.{ℕ}
 use lib.IntN.{pos}
 use lib.Dec.{leb}
 use lib.ListN.{length}
-use lib.Ieee.{Float, binary64, le}
+use lib.Ieee.{Float, binary64}
 use lib.Ieee.Bits.{ofBits-fits}
-use lib.Ieee.Fits.{cond-fits, add-fits, sub-fits, div-fits, ofInt-fits}
-use Rattle.math.specs.Float.{tau, ofNat, plus, minus, times}
+use lib.Ieee.Fits.{div-fits, ofInt-fits}
+use Rattle.math.specs.Float.{tau, ofNat, times}
 use Rattle.nco.specs.declared.Nco.{Nco}
-use Rattle.nco.specs.Nco.{advanced, freshNco, retuned, steppedNco}
+use Rattle.nco.specs.Nco.{freshNco, retuned, steppedNco}
+use Rattle.nco.proofs.Phase.{advanced-fits}
 use Rattle.schedule.specs.Time.{timeAt, oneMore}
 use Rattle.schedule.specs.Dialling.{digitAt, inTone}
 use Rattle.schedule.specs.Ringback.{ringTime, ringTone}
@@ -28,7 +29,7 @@ use Rattle.stage.specs.Enter.{enterOf}
 use Rattle.stage.specs.Next.{offHookOf, dialToneOf, diallingOf, ringbackOf, ciOf, ansamOf, cmJmOf, cjAt, cjOf, trainingOf, connectedOf, generateOf, onward, stateNext}
 use Rattle.tones.specs.Mixed.{soundedOf, answerOf}
 use Rattle.tones.specs.Dial.{pairStays, takenOver, dialledBy, dialStepOf}
-use Rattle.sound.specs.Held.{Double, HeldNco, HeldFsk, Held}
+use Rattle.sound.specs.Held.{HeldNco, HeldFsk, Held}
 
 -- ---- oscillators
 pub fresh-held : (freq : Float) (r : ℕ) → HeldNco (freshNco freq (ofNat r))
@@ -37,12 +38,8 @@ fresh-held freq r = record { phase = ofBits-fits binary64 0; step = div-fits bin
 pub retuned-held : (o : Nco) (freq : Float) → HeldNco o → HeldNco (retuned o freq)
 retuned-held o freq h = record { phase = h .phase; step = div-fits binary64 (times tau freq) (o .rate); rate = h .rate }
 
-advanced-held : (step phase : Float) → Double (advanced step phase)
-unfolding advanced
-advanced-held step phase = cond-fits binary64 (le tau (plus phase step)) (minus (plus phase step) tau) (plus phase step) (sub-fits binary64 (plus phase step) tau) (add-fits binary64 phase step)
-
 pub stepped-held : (o : Nco) → HeldNco o → HeldNco (steppedNco o)
-stepped-held o h = record { phase = advanced-held (o .step) (o .phase); step = h .step; rate = h .rate }
+stepped-held o h = record { phase = advanced-fits (o .step) (o .phase); step = h .step; rate = h .rate }
 
 sounded-held : (on : Bool) (a b : Nco) → HeldNco a × HeldNco b → HeldNco (soundedOf on a b .a) × HeldNco (soundedOf on a b .b)
 unfolding soundedOf

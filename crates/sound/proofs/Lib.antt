@@ -1,7 +1,6 @@
 pub mod Limits
 pub mod Parts
 pub mod Dialling
-pub mod Equal
 pub mod Held
 pub mod Oscillators
 pub mod Channels

@@ -7,7 +7,6 @@ ghost use mathlib.Core.Path.{_≡_};
 ghost use mathlib.Core.Bool.{true};
 ghost use Prim.Native.Nat.{_≤_};
 ghost use lib.Dec.{ltb};
-ghost use Rattle.nco.specs.Nco.{inTurn};
 ghost use Rattle.schedule.specs.Time.{samplesIn};
 ghost use Rattle.schedule.specs.Symbols.{inSymbol};
 ghost use Rattle.schedule.specs.Length.{diallingLength};
@@ -18,8 +17,6 @@ const MIN_RATE: u32 = 8_000;
 const MAX_RATE: u32 = 192_000;
 
 const MAX_DIGITS: usize = 76;
-
-const TAU: f64 = 6.283185307179586;
 
 const CI_BITS: u32 = 60;
 
@@ -46,13 +43,6 @@ pub fn digits_ok(digits: &[u8]) -> bool
     false
 }
 
-// A phase or a step is in [0, TAU).
-fn in_turn(x: f64) -> bool
-    ensures { λ r. ⌜ r ≡ inTurn x ⌝ }
-{
-    (x >= 0.0) & (x < TAU)
-}
-
 // A symbol phase is in [0, 1).
 fn in_symbol(phase: f64) -> bool
     ensures { λ r. ⌜ r ≡ inSymbol phase ⌝ }
@@ -64,7 +54,7 @@ fn in_symbol(phase: f64) -> bool
 fn nco_ok(o: Nco, rate: u32) -> bool
     ensures { λ r. ⌜ r ≡ ncoOk o rate ⌝ }
 {
-    in_turn(o.phase) & (in_turn(o.step) & (o.rate == rate as f64))
+    nco::in_turn(o.phase) & (nco::in_turn(o.step) & (o.rate == rate as f64))
 }
 
 // A symbol step is 300 / r.

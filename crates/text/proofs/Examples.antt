@@ -1,6 +1,6 @@
 -- What the definitions of texts give, computed. Assumes nothing.
 use mathlib.Core.Path.{_≡_, refl}
-use Rattle.text.specs.Ascii.{ascii}
+use Rattle.ascii.specs.Ascii.{ascii}
 use Rattle.text.specs.Digits.{glyphOf, glyphIf, lastDigits, decimalOf, decimalFrom, decimalIf}
 use Rattle.text.specs.Seconds.{partsOf, secondsOf, secondsIf}
 use Rattle.text.specs.Text.{pageOf, addOf, addIf}

@@ -10,7 +10,7 @@ use borrow.Author.Tests.{leb-true, le-leb, lt-leb, lt-ltb, le-ltb}
 use lib.Dec.{leb, ltb}
 use lib.ListN.{length, take, drop, set, getD, take-append-drop, length-append, length-take, length-drop, length-set}
 use lib.Seq.{paste, paste-zero, paste-suc, length-paste, take-length, take-set-le, set-split, take-at, drop-at, drop-drop, length-take-le}
-use Rattle.text.specs.Ascii.{ascii}
+use Rattle.ascii.specs.Ascii.{ascii}
 use Rattle.text.specs.Seconds.{secondsIf}
 use Rattle.text.specs.Text.{Page, pageOf, addOf, addIf}
 use Rattle.text.specs.Digits.{glyphOf, lastDigits, decimalFrom, decimalIf, decimalOf, placesOf}

@@ -1,5 +1,4 @@
 -- Definitions that the contracts cite.
-pub mod Ascii
 pub mod Text
 pub mod Digits
 pub mod Seconds

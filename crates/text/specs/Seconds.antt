@@ -3,7 +3,7 @@ use Prim.Native.Nat.{ℕ, _+_, _*_, _/_}
 use mathlib.Core.Bool.{Bool, true, false}
 use mathlib.Core.List.{List, [], _++_}
 use lib.Dec.{eqb}
-use Rattle.text.specs.Ascii.{ascii}
+use Rattle.ascii.specs.Ascii.{ascii}
 use Rattle.text.specs.Digits.{lastDigits, decimalOf}
 
 -- in parts of 1 / 10,000 second

@@ -4,7 +4,7 @@ use mathlib.Core.Path.{sym, ap, _∙_}
 use native.Mathlib.Omega.{arith}
 use borrow.Author.Needs.{needs}
 use borrow.Author.Tests.{eq-eqb, ne-eqb, leb-true, leb-false}
-use Rattle.text.specs.Ascii.{ascii}
+use Rattle.ascii.specs.Ascii.{ascii}
 use Rattle.text.specs.Digits.{lastDigits}
 use Rattle.text.specs.Seconds.{partsOf, secondsOf, secondsIf}
 use Rattle.text.specs.Text.{Page, addOf}

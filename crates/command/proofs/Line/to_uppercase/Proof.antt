@@ -6,7 +6,8 @@ use mathlib.Core.List.{_++_, map}
 use lib.ListN.{length, take, drop, length-set}
 use native.Mathlib.Omega.{arith}
 use borrow.Author.Needs.{needs}
-use Rattle.command.specs.Line.{upper, uppercased}
+use Rattle.ascii.specs.Upper.{upper}
+use Rattle.command.specs.Line.{uppercased}
 use Rattle.command.proofs.Mapped.{turn, done}
 use Rattle.command.proofs.Line.to_uppercase.Statement.{statement}
 use Rattle.command.proofs.Line.to_uppercase.Tie as tie

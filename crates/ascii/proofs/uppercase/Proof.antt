@@ -2,9 +2,9 @@
 use native.Mathlib.Omega.{arith}
 use borrow.Author.Needs.{needs}
 use borrow.Author.Tests.{le-leb, lt-leb}
-use Rattle.keys.specs.Keys.{upper}
-use Rattle.keys.proofs.uppercase.Statement.{statement}
-use Rattle.keys.proofs.uppercase.Tie as tie
+use Rattle.ascii.specs.Upper.{upper}
+use Rattle.ascii.proofs.uppercase.Statement.{statement}
+use Rattle.ascii.proofs.uppercase.Tie as tie
 
 sub-result : tie.Need-sub-result
 sub-result c = search needs

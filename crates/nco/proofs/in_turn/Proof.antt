@@ -1,7 +1,7 @@
 -- `in_turn` meets its contract: it is the definition. Assumes nothing.
 use mathlib.Core.Path.{refl}
-use Rattle.sound.proofs.in_turn.Statement.{statement}
-use Rattle.sound.proofs.in_turn.Tie as tie
+use Rattle.nco.proofs.in_turn.Statement.{statement}
+use Rattle.nco.proofs.in_turn.Tie as tie
 
 returns : tie.Need-returns
 returns c = refl
