@@ -17,7 +17,7 @@ use Rattle.schedule.specs.Ansam.{signAt}
 use Rattle.schedule.specs.Ringback.{ringAt, ringTime, ringTone}
 use Rattle.schedule.specs.Dialling.{digitAt, inTone}
 use Rattle.schedule.specs.Length.{ansamTime, ringbackTime}
-use Rattle.schedule.specs.Runs.{counted, Before, OneSign, OneGate, OneKey}
+use Rattle.runs.specs.Runs.{counted, Before, OneSign, OneGate, OneKey}
 use Rattle.schedule.proofs.Constants.{three, four}
 use Rattle.tones.specs.declared.Mixed.{Mixed}
 use Rattle.tones.specs.Mixed.{soundedOf, answerOf}

@@ -134,11 +134,11 @@ fn write_dial_tone(a: Nco, b: Nco, n: u32, digits: &[u8], rate: u32, out: &mut [
             written: 0,
         };
     }
-    let count = schedule::samples_left(n, end, room);
+    let count = runs::samples_left(n, end, room);
     let p = play_tones(a, b, count, out);
     let x = p.a;
     let y = p.b;
-    let k = schedule::count_on(n, count);
+    let k = runs::count_on(n, count);
     if k as u64 >= end {
         return Wrote {
             state: stage::enter_state(Stage::Dialling, digits, rate),
@@ -202,14 +202,14 @@ fn write_dialling(dial: Dial, n: u32, digits: &[u8], rate: u32, out: &mut [f32])
     let i = dial.digit;
     let on = dial.tone;
     if i < digits.len() as u64 {
-        let count = schedule::dialling_run(i, on, n, rate, out.len());
+        let count = runs::dialling_run(i, on, n, rate, out.len());
         if count > 0 {
             let a = dial.a;
             let b = dial.b;
             let p = play_sounded(on, a, b, count, out);
             let x = p.a;
             let y = p.b;
-            let k = schedule::count_on(n, count);
+            let k = runs::count_on(n, count);
             return Wrote {
                 state: StageState::Dialling {
                     digit_i: i,
@@ -244,12 +244,12 @@ fn write_ringback(
             written: 0,
         };
     }
-    let count = schedule::ring_run(n, rate, schedule::samples_left(n, end, room));
+    let count = runs::ring_run(n, rate, runs::samples_left(n, end, room));
     let progress = schedule::ring_progress(schedule::seconds(n, rate));
     let p = play_sounded(schedule::ringback_gate(progress.time), a, b, count, out);
     let x = p.a;
     let y = p.b;
-    let k = schedule::count_on(n, count);
+    let k = runs::count_on(n, count);
     if k as u64 >= end {
         return Wrote {
             state: stage::enter_state(Stage::Ci, digits, rate),
@@ -278,12 +278,12 @@ fn write_ansam(carrier: Nco, env: Nco, n: u32, digits: &[u8], rate: u32, out: &m
             written: 0,
         };
     }
-    let count = schedule::reversal_run(n, rate, schedule::samples_left(n, end, room));
+    let count = runs::reversal_run(n, rate, runs::samples_left(n, end, room));
     let sign = schedule::reversal_sign(schedule::seconds(n, rate));
     let p = play_answer(carrier, env, sign, count, out);
     let x = p.a;
     let y = p.b;
-    let k = schedule::count_on(n, count);
+    let k = runs::count_on(n, count);
     if k as u64 >= end {
         return Wrote {
             state: stage::enter_state(Stage::CmJm, digits, rate),

@@ -2,7 +2,6 @@ pub mod Constants
 pub mod Count
 pub mod Samples
 pub mod Digits
-pub mod Runs
 pub mod Symbols
 pub mod SymbolPhase
 pub mod First

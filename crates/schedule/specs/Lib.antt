@@ -2,7 +2,6 @@ pub mod Time
 pub mod Dialling
 pub mod Ringback
 pub mod Ansam
-pub mod Runs
 pub mod Symbols
 pub mod Length
 pub mod Bounds

@@ -6,31 +6,20 @@ ghost use Rattle.schedule.specs.Dialling.{digitAt, inTone};
 ghost use Rattle.schedule.specs.Ringback.{ringAt, ringTime, ringTone};
 ghost use Rattle.schedule.specs.Ansam.{signAt};
 ghost use Rattle.schedule.specs.Symbols.{symbolStep, symbolEnds, nextPhase};
-ghost use Rattle.schedule.specs.Runs.{counted, Before, OneSign, OneGate, OneKey, sameReversal, samePart, sameGate};
-ghost use Prim.Native.Nat.{ℕ, suc, _+_, _*_, _≤_, _<_};
-ghost use mathlib.Core.Bool.{_&&_};
-ghost use lib.Dec.{leb};
 
 const DTMF_TONE_S: f64 = 0.1;
 
 const DIGIT_PERIOD_S: f64 = 0.2;
 
-const RING_ON_S: f64 = 0.4;
+pub const RING_ON_S: f64 = 0.4;
 
-const RING_OFF_S: f64 = 0.2;
+pub const RING_OFF_S: f64 = 0.2;
 
 const RING_CYCLE_S: f64 = 3.0;
 
-const ANSAM_REVERSAL_S: f64 = 0.45;
+pub const ANSAM_REVERSAL_S: f64 = 0.45;
 
 const BAUD: f64 = 300.0;
-
-// Where runs are looked for: 01's rates, and counts far above any stage's.
-const MIN_RATE: u32 = 8_000;
-
-const MAX_RATE: u32 = 192_000;
-
-const MAX_COUNT: u32 = 0x4000_0000;
 
 // One more of a count; the largest stays.
 pub fn one_more(n: u32) -> u32
@@ -135,155 +124,4 @@ pub fn tick(phase: f64, step: f64) -> Ticked
         phase: x,
         done: false,
     }
-}
-
-// The count after c samples more.
-pub fn count_on(n: u32, c: usize) -> u32
-    ensures { λ r. ⌜ r ≡ counted c n ⌝ }
-{
-    let room = 0xffff_ffff - n;
-    if c <= room as usize {
-        return n + c as u32;
-    }
-    0xffff_ffff
-}
-
-// How many samples are left of a stage that ends at a count, and of a buffer; one at least.
-pub fn samples_left(n: u32, end: u64, most: usize) -> usize
-    requires { ⌜ 0 < most ⌝ }
-    ensures { λ c. ⌜ Before n end most c ⌝ }
-{
-    let wide = n as u64;
-    if wide < end {
-        let left = end - wide;
-        if left < most as u64 {
-            return left as usize;
-        }
-        return most;
-    }
-    1
-}
-
-// Whether runs are looked for: elsewhere each sample is a run.
-fn runs_known(n: u32, rate: u32, most: usize) -> bool
-    ensures { λ r. ⌜ r ≡ ((leb 8000 rate && leb rate 192000) && (leb n 0x4000_0000 && leb most 0x4000_0000)) ⌝ }
-{
-    ((rate >= MIN_RATE) & (rate <= MAX_RATE)) & ((n <= MAX_COUNT) & (most <= MAX_COUNT as usize))
-}
-
-fn same_reversal(s: f64, t: f64) -> bool
-    ensures { λ r. ⌜ r ≡ sameReversal s t ⌝ }
-{
-    math::floor(s / ANSAM_REVERSAL_S) == math::floor(t / ANSAM_REVERSAL_S)
-}
-
-// A run of one sign: as many samples as there is room for, halved until its ends agree. A count of
-// reversals never falls, so what lies between agrees with them.
-pub fn reversal_run(n: u32, rate: u32, most: usize) -> usize
-    requires { ⌜ 0 < most ⌝ }
-    ensures { λ c. ⌜ OneSign rate n most c ⌝ }
-{
-    if runs_known(n, rate, most) {
-        let first = seconds(n, rate);
-        let mut c = most;
-        while c > 1 {
-            let last = n + (c - 1) as u32;
-            if same_reversal(first, seconds(last, rate)) {
-                return c;
-            }
-            c = c / 2;
-        }
-    }
-    1
-}
-
-fn same_part(u: f64, v: f64) -> bool
-    ensures { λ r. ⌜ r ≡ samePart u v ⌝ }
-{
-    ((u < RING_ON_S) == (v < RING_ON_S))
-        & (((u >= RING_ON_S + RING_OFF_S) == (v >= RING_ON_S + RING_OFF_S))
-            & ((u < 1.0) == (v < 1.0)))
-}
-
-fn same_gate(s: f64, t: f64) -> bool
-    ensures { λ r. ⌜ r ≡ sameGate s t ⌝ }
-{
-    let a = ring_progress(s);
-    let b = ring_progress(t);
-    (a.ring == b.ring) & same_part(a.time, b.time)
-}
-
-// A run of one ring in tone or in a gap, found likewise.
-pub fn ring_run(n: u32, rate: u32, most: usize) -> usize
-    requires { ⌜ 0 < most ⌝ }
-    ensures { λ c. ⌜ OneGate rate n most c ⌝ }
-{
-    if runs_known(n, rate, most) {
-        let first = seconds(n, rate);
-        let mut c = most;
-        while c > 1 {
-            let last = n + (c - 1) as u32;
-            if same_gate(first, seconds(last, rate)) {
-                return c;
-            }
-            c = c / 2;
-        }
-    }
-    1
-}
-
-fn at_most(c: u64, most: usize) -> usize
-    ensures { λ r. ⌜ (r ≤ c) × (r ≤ most) ⌝ }
-{
-    if c < most as u64 {
-        return c as usize;
-    }
-    most
-}
-
-// How many samples after the count n the tone of digit i goes on for sure: those off its edges.
-fn tone_run(i: u64, n: u64, r: u64) -> u64
-    requires { ⌜ (i ≤ 75) × (n ≤ 0x4000_0000) × (r ≤ 192000) ⌝ }
-    ensures { λ c. ⌜ ((j : ℕ) → j < c → (i * r < 5 * (n + suc j)) × (10 * (n + suc j) < (2 * i + 1) * r)) ⌝ }
-{
-    let x = i * r;
-    let middle = 2 * x + r;
-    if x < 5 * (n + 1) {
-        if 10 * (n + 1) < middle {
-            return (middle - 1) / 10 - n;
-        }
-    }
-    0
-}
-
-// The same of the gap after it.
-fn gap_run(i: u64, n: u64, r: u64) -> u64
-    requires { ⌜ (i ≤ 75) × (n ≤ 0x4000_0000) × (r ≤ 192000) ⌝ }
-    ensures { λ c. ⌜ ((j : ℕ) → j < c → ((2 * i + 1) * r < 10 * (n + suc j)) × (5 * (n + suc j) < (i + 1) * r)) ⌝ }
-{
-    let x = i * r;
-    let middle = 2 * x + r;
-    let next = x + r;
-    if middle < 10 * (n + 1) {
-        if 5 * (n + 1) < next {
-            return (next - 1) / 5 - n;
-        }
-    }
-    0
-}
-
-// A run of one digit, in tone or in its gap. On an edge none is known.
-pub fn dialling_run(digit: u64, tone: bool, n: u32, rate: u32, most: usize) -> usize
-    ensures { λ c. ⌜ OneKey rate n digit tone most c ⌝ }
-{
-    if digit > 75 {
-        return 0;
-    }
-    if runs_known(n, rate, most) {
-        if tone {
-            return at_most(tone_run(digit, n as u64, rate as u64), most);
-        }
-        return at_most(gap_run(digit, n as u64, rate as u64), most);
-    }
-    0
 }

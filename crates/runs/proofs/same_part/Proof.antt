@@ -1,8 +1,8 @@
 -- `same_part` meets its contract: it is the definition. Assumes nothing.
 use mathlib.Core.Path.{refl}
-use Rattle.schedule.specs.Runs.{samePart}
-use Rattle.schedule.proofs.same_part.Statement.{statement}
-use Rattle.schedule.proofs.same_part.Tie as tie
+use Rattle.runs.specs.Runs.{samePart}
+use Rattle.runs.proofs.same_part.Statement.{statement}
+use Rattle.runs.proofs.same_part.Tie as tie
 
 returns : tie.Need-returns
 unfolding samePart

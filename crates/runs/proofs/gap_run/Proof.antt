@@ -3,8 +3,8 @@ use Prim.Native.Nat.{_*_, _≤_}
 use native.Mathlib.Nat.{mul-le-mul}
 use native.Mathlib.Omega.{arith}
 use borrow.Author.Needs.{needs}
-use Rattle.schedule.proofs.gap_run.Statement.{statement}
-use Rattle.schedule.proofs.gap_run.Tie as tie
+use Rattle.runs.proofs.gap_run.Statement.{statement}
+use Rattle.runs.proofs.gap_run.Tie as tie
 
 -- no product is large
 small : (c : tie.Start) → c .args .i * c .args .r ≤ 75 * 192000

@@ -1,8 +1,8 @@
 -- `same_reversal` meets its contract, by what `floor` ensures. Assumes nothing.
-use Rattle.schedule.specs.Runs.{sameReversal}
+use Rattle.runs.specs.Runs.{sameReversal}
 use borrow.Author.Needs.{needs}
-use Rattle.schedule.proofs.same_reversal.Statement.{statement}
-use Rattle.schedule.proofs.same_reversal.Tie as tie
+use Rattle.runs.proofs.same_reversal.Statement.{statement}
+use Rattle.runs.proofs.same_reversal.Tie as tie
 
 floor-requires : tie.Need-floor-requires
 floor-requires c κs = search needs

@@ -17,13 +17,13 @@ use Rattle.math.proofs.Tests.{same-test, both-true}
 use Rattle.math.proofs.Values.{nat-value, div-by, sub-at, of-le, le-at, lt-at}
 use Rattle.math.proofs.Bounds.{AtMost, at-most, units-at-most}
 use Rattle.math.proofs.Whole.{floor-at}
 use Rattle.schedule.specs.Time.{timeAt}
 use Rattle.schedule.specs.Ansam.{reversal, signBy, signAt}
 use Rattle.schedule.specs.Ringback.{ringCycle, ringOn, ringOff, ringBy, ringTimeBy, ringAt, ringTime, ringTone}
-use Rattle.schedule.specs.Runs.{counted, Before, OneSign, OneGate, OneKey, sameReversal, samePart, sameGate}
+use Rattle.runs.specs.Runs.{counted, Before, OneSign, OneGate, OneKey, sameReversal, samePart, sameGate}
 use Rattle.schedule.proofs.Samples.{rate-value}
 use Rattle.schedule.proofs.Digits.{in-tone, in-gap}
-use Rattle.schedule.proofs.Count.{counted-is, counted-le}
+use Rattle.runs.proofs.Counted.{counted-is, counted-le}
 
 -- ---- constants, in units
 -- 0.45

@@ -1,8 +1,8 @@
 -- `same_gate` meets its contract, by what `ring_progress` and `same_part` ensure. Assumes nothing.
-use Rattle.schedule.specs.Runs.{sameGate}
+use Rattle.runs.specs.Runs.{sameGate}
 use borrow.Author.Needs.{needs}
-use Rattle.schedule.proofs.same_gate.Statement.{statement}
-use Rattle.schedule.proofs.same_gate.Tie as tie
+use Rattle.runs.proofs.same_gate.Statement.{statement}
+use Rattle.runs.proofs.same_gate.Tie as tie
 
 ring-progress-requires : tie.Need-ring-progress-requires
 ring-progress-requires c κs = search needs

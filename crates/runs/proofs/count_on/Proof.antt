@@ -1,10 +1,10 @@
 -- `count_on` meets its contract: there is room for all of them, or the count stands still at the largest. Assumes nothing.
 use native.Mathlib.Omega.{arith}
 use mathlib.Core.Path.{sym}
-use Rattle.schedule.proofs.Count.{counted-is, counted-most}
+use Rattle.runs.proofs.Counted.{counted-is, counted-most}
 use borrow.Author.Needs.{needs}
-use Rattle.schedule.proofs.count_on.Statement.{statement}
-use Rattle.schedule.proofs.count_on.Tie as tie
+use Rattle.runs.proofs.count_on.Statement.{statement}
+use Rattle.runs.proofs.count_on.Tie as tie
 
 sub-room : tie.Need-sub-room
 sub-room c = search needs

@@ -1,10 +1,10 @@
 -- `dialling_run` meets its contract: off the edges, by `in-tone` and `in-gap`; elsewhere it answers none. Assumes nothing.
 use mathlib.Core.Path.{sym, _∙_}
 use native.Mathlib.Nat.{lt-of-lt-of-le}
-use Rattle.schedule.proofs.Runs.{Limits, limits, one-tone, one-gap, no-key}
+use Rattle.runs.proofs.Runs.{Limits, limits, one-tone, one-gap, no-key}
 use borrow.Author.Needs.{needs}
-use Rattle.schedule.proofs.dialling_run.Statement.{statement}
-use Rattle.schedule.proofs.dialling_run.Tie as tie
+use Rattle.runs.proofs.dialling_run.Statement.{statement}
+use Rattle.runs.proofs.dialling_run.Tie as tie
 
 known : (c : tie.Then2) → Limits (c .before .before .before .args .rate) (c .before .before .before .args .n) (c .before .before .before .args .most)
 known c = limits _ _ _ (sym (c .before .runs-known .ensures) ∙ c .if2 .taken)

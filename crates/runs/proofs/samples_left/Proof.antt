@@ -1,8 +1,8 @@
 -- `samples_left` meets its contract: the stage ends first, or the buffer, or no sample is left. Assumes nothing.
-use Rattle.schedule.proofs.Runs.{before-end, before-full, before-last}
+use Rattle.runs.proofs.Runs.{before-end, before-full, before-last}
 use borrow.Author.Needs.{needs}
-use Rattle.schedule.proofs.samples_left.Statement.{statement}
-use Rattle.schedule.proofs.samples_left.Tie as tie
+use Rattle.runs.proofs.samples_left.Statement.{statement}
+use Rattle.runs.proofs.samples_left.Tie as tie
 
 sub-left : tie.Need-sub-left
 sub-left c = search needs
