@@ -1,4 +1,4 @@
-.PHONY: call test oracle bench
+.PHONY: call test oracle bench edits
 
 # A call to listen to, in call.wav, and a table of its stages. The program is proved before it is built.
 call:
@@ -16,3 +16,7 @@ oracle:
 # The port against the Rust: ns a sample, and the samples' bits compared.
 bench:
 	tests/bench/run
+
+# The wrong programs that the gate has no time for.
+edits:
+	tests/edits/run
