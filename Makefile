@@ -1,4 +1,4 @@
-.PHONY: call test oracle bench edits
+.PHONY: call test oracle listen bench edits
 
 # A call to listen to, in call.wav, and a table of its stages. The program is proved before it is built.
 call:
@@ -12,6 +12,12 @@ test:
 # The Rust with 01's stand-ins, at target/oracle/oracle.
 oracle:
 	tests/oracle/build
+
+# What `call` writes, held against the Rust and played to other ears.
+listen:
+	rt check call
+	tests/call
+	tests/decode
 
 # The port against the Rust: ns a sample, and the samples' bits compared.
 bench:
