@@ -33,7 +33,7 @@ use Rattle.at.proofs.Sound.{sound-typed, sound-lapse, sound-forced, sound-fresh
 use Rattle.session.specs.declared.SessionState.{SessionState}
 use Rattle.session.specs.declared.SessionState.the-variants.{Idle, Dialling, Answering, Connected}
 use Rattle.set.specs.Sound.{sound}
-use Rattle.set.proofs.Kept.{after-sound}
+use Rattle.claim.proofs.Sounding.{after-sound}
 use Rattle.set.specs.Book.{typing, time, forcing, filling, Book, blank, overture, lengthOf, stageOfSample, typingRefusal, fillRefusal, fedBy, lapsedBy, obeyed, shownBy, lit, filledIn, unlessDeclined, entered}
 use Rattle.claim.specs.Claim.{fill, other, turnOf, turnUnlessDeclined, turn, Since, notCalled, noted, AllAtMost, NeverBack}
 use Rattle.set.proofs.Reached.{stageIn, reached, few-typed}
