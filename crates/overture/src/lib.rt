@@ -10,7 +10,7 @@ ghost use mathlib.Core.Path.{_≡_};
 ghost use mathlib.Core.Bool.{true, false};
 ghost use Prim.Native.Nat.{_≤_, _<_};
 ghost use lib.ListN.{length};
-ghost use Rattle.stage.specs.declared.StageState.the-variants.{OffHook, DialTone, Dialling, Ringback, Ci, Ansam, CmJm, Cj, Training, Connected};
+ghost use Rattle.stage.specs.declared.StageState.the-variants.{OffHook, DialTone, Ringback, Ci, Ansam, CmJm, Cj, Training, Connected};
 ghost use Rattle.stage.specs.Next.{dialState};
 ghost use Rattle.tones.specs.Mixed.{soundedOf, answerOf};
 ghost use Rattle.overture.specs.Iteration.{after, samples, shownAfter};
