@@ -23,6 +23,6 @@ listen:
 bench:
 	tests/bench/run
 
-# The wrong programs that the gate has no time for.
+# The wrong programs of tests/edits, which `rt ci` does not try.
 edits:
 	tests/edits/run
