@@ -13,7 +13,7 @@ test:
 oracle:
 	tests/oracle/build
 
-# What `call` writes, held against the Rust and played to other ears.
+# What `call` writes, held against the Rust and played to a decoder of keys.
 listen:
 	rt check call
 	tests/call

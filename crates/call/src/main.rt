@@ -1,5 +1,5 @@
-// Makes a call as a theatre's machine does: types the dial line, fills buffers of uneven lengths until
-// the line is up, writes what the house hears to a WAV file, and prints when each stage came.
+// Makes a call: types the dial line, fills buffers of uneven lengths until the line is up, writes the
+// samples up to T to a WAV file, and prints when each stage came.
 mod play;
 mod stages;
 mod table;

@@ -5,7 +5,7 @@ pub fn print(firsts: &[u32; 11], rate: u32, up: u32) {
     let mut k = text::put(
         &mut page,
         0,
-        b"stage  name            first   samples   seconds\n",
+        b"stage  name         first   samples   seconds\n",
     );
     k = put_stages(&mut page, k, firsts, rate);
     k = put_end(&mut page, k, between(1, firsts[10]), rate, up);
