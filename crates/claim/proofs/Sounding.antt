@@ -6,9 +6,8 @@ use mathlib.Core.List.{List}
 use Rattle.stage.specs.declared.StageState.{StageState}
 use Rattle.stage.specs.Next.{stateNext}
 use Rattle.overture.specs.Iteration.{after}
-use Rattle.sound.specs.Held.{Held}
 use Rattle.sound.specs.Sound.{soundState}
-use Rattle.sound.proofs.Held.{next-held}
+use Rattle.sound.proofs.Held.{Held, next-held}
 use Rattle.sound.proofs.Next.{next-sound}
 
 module _ (digits : List ℕ) (r : ℕ) where

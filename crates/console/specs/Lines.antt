@@ -1,4 +1,4 @@
--- 01, "The program `wall`": which call a line is. A line is its bytes without the line feed.
+-- 01, "Proving cases", the program `wall`: which call a line is. A line is its bytes without the line feed.
 -- After the letter it holds decimal digits and commas alone; whatever else a line holds, it is an other line.
 use Prim.Native.Char.{Char, code}
 use Prim.Native.Nat.{ℕ, _+_, _-_, _*_, _^_, min}

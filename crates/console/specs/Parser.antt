@@ -1,4 +1,4 @@
--- What the parser holds after some bytes of a line, and what it answers at the line's end.
+-- No part of 01, but how a line is read byte by byte: what the parser holds after some bytes of a line, and what it answers at the line's end.
 -- `readOf` is what a byte does to a line, by the definition of lines: the rest here is how the parser comes to it.
 use Prim.Native.Char.{code}
 use Prim.Native.Nat.{ℕ, _+_, _-_, _*_, _^_, min}

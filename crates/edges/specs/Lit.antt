@@ -1,4 +1,4 @@
--- What a set shows after a fill, and which sample of a buffer is a stage's first.
+-- No part of 01, for the table that `call` prints: what a set shows after a fill, and which sample of a buffer is a stage's first.
 use Prim.Native.Nat.{ℕ, _-_, _<_, _≤_}
 use mathlib.Core.Bool.{Bool, true, false}
 use Rattle.set.specs.declared.Set.{Set}

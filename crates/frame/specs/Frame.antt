@@ -1,4 +1,5 @@
 -- 01, "Keys and frames": a frame. 01, "Stages": the four payloads, whose frames are the bits of Ci, CmJm, Cj and Training.
+use Prim.Native.Char.{code}
 use Prim.Native.Nat.{ℕ, _/_, _%_, _^_}
 use mathlib.Core.Bool.{Bool, true, false}
 use mathlib.Core.List.{List, [], _∷_, _++_}
@@ -35,15 +36,15 @@ bitAt payload k = getD (framed payload) k true
 
 -- CICICI
 abbrev pub ciPayload : List ℕ
-ciPayload = 67 ∷ 73 ∷ 67 ∷ 73 ∷ 67 ∷ 73 ∷ []
+ciPayload = code "C" ∷ code "I" ∷ code "C" ∷ code "I" ∷ code "C" ∷ code "I" ∷ []
 
 -- CMJMCMJM
 abbrev pub cmJmPayload : List ℕ
-cmJmPayload = 67 ∷ 77 ∷ 74 ∷ 77 ∷ 67 ∷ 77 ∷ 74 ∷ 77 ∷ []
+cmJmPayload = code "C" ∷ code "M" ∷ code "J" ∷ code "M" ∷ code "C" ∷ code "M" ∷ code "J" ∷ code "M" ∷ []
 
 -- CJCJCJ
 abbrev pub cjPayload : List ℕ
-cjPayload = 67 ∷ 74 ∷ 67 ∷ 74 ∷ 67 ∷ 74 ∷ []
+cjPayload = code "C" ∷ code "J" ∷ code "C" ∷ code "J" ∷ code "C" ∷ code "J" ∷ []
 
 -- thirty bytes 55 hexadecimal
 abbrev pub trainingPayload : List ℕ

@@ -16,7 +16,7 @@ abbrev pub toneOf : Bool → Float
 toneOf true = ofNat 980
 toneOf false = ofNat 1180
 
--- 0.7
+-- oscillator × 0.7
 abbrev pub keyed : Float → Float
 keyed x = times x (f64 0x3fe6_6666_6666_6666)
 

@@ -6,6 +6,7 @@ use lib.Dec.{eqb, ltb}
 use lib.Ieee.{Float, binary64, ofInt}
 use lib.IntN.{pos}
 use lib.ListN.{length, getD, take, replicate}
+use Rattle.ascii.specs.Ascii.{ascii}
 use Rattle.ascii.specs.Upper.{upper}
 use Rattle.keys.specs.declared.Tones.{Tones}
 use Rattle.keys.specs.declared.Tones.the-variants.{Key, NoKey}
@@ -21,12 +22,7 @@ columns = 1209 ∷ 1336 ∷ 1477 ∷ 1633 ∷ []
 
 -- keys 123A, 456B, 789C, *0#D
 abbrev pub keypad : List (List ℕ)
-keypad =
-    (49 ∷ 50 ∷ 51 ∷ 65 ∷ [])
-    ∷ (52 ∷ 53 ∷ 54 ∷ 66 ∷ [])
-    ∷ (55 ∷ 56 ∷ 57 ∷ 67 ∷ [])
-    ∷ (42 ∷ 48 ∷ 35 ∷ 68 ∷ [])
-    ∷ []
+keypad = ascii "123A" ∷ ascii "456B" ∷ ascii "789C" ∷ ascii "*0#D" ∷ []
 
 -- whether a byte is among the keys of a row
 abbrev pub isIn : ℕ → List ℕ → Bool
@@ -52,7 +48,7 @@ keyColumn b = columnIn b (getD keypad (rowIn b keypad) [])
 unfoldable pub isKey : ℕ → Bool
 isKey b = ltb (keyRow b) (length keypad)
 
--- a frequency as a number of the code
+-- a frequency, in f64
 abbrev pub hertz : ℕ → Float
 hertz n = ofInt binary64 (pos n)
 

@@ -6,7 +6,7 @@ use Prim.Native.Nat.{ℕ, _^_}
 use lib.Ieee.{Float, binary64, mul, round, ofInt, ofBits}
 use Rattle.math.specs.Float.{f64, one, tau, halfTurn, quarterTurn, ofNat, times}
 use Rattle.math.specs.Sine.{sineDivisors}
-use Rattle.math.specs.Decay.{decayDivisors}
+use Rattle.math.specs.Decay.{decayDivisors, decayEnd, decayScale}
 use Rattle.math.specs.Whole.{roundOf}
 use Rattle.math.specs.Narrow.{narrowed}
 
@@ -30,15 +30,13 @@ decimals =
     ∷ record { digits = 4; places = 1; constant = f64 0x3fd9_9999_9999_999a }
     ∷ record { digits = 3; places = 1; constant = f64 0x3fd3_3333_3333_3333 }
     ∷ record { digits = 7; places = 1; constant = f64 0x3fe6_6666_6666_6666 }
-    ∷ record { digits = 300; places = 0; constant = f64 0x4072_c000_0000_0000 }
-    ∷ record { digits = 8388608; places = 0; constant = f64 0x4160_0000_0000_0000 }
     ∷ []
 
 pub decimals-round : map (λ d. round binary64 false (d .digits) (10 ^ d .places)) decimals ≡ map (λ d. d .constant) decimals
 unfolding round ofBits
 decimals-round = refl
 
--- ---- the divisors of both series, exactly
+-- ---- the divisors of both series, and E's other whole numbers, exactly
 pub sine-divisors : sineDivisors ≡ ofNat 210 ∷ ofNat 156 ∷ ofNat 110 ∷ ofNat 72 ∷ ofNat 42 ∷ ofNat 20 ∷ ofNat 6 ∷ []
 unfolding ofInt ofBits
 sine-divisors = refl
@@ -46,6 +44,14 @@ sine-divisors = refl
 pub decay-divisors : decayDivisors ≡ ofNat 4 ∷ ofNat 3 ∷ ofNat 2 ∷ ofNat 1 ∷ []
 unfolding ofInt ofBits
 decay-divisors = refl
+
+pub decay-end : decayEnd ≡ ofNat 8
+unfolding ofInt ofBits
+decay-end = refl
+
+pub decay-scale : decayScale ≡ ofNat 256
+unfolding ofInt ofBits
+decay-scale = refl
 
 -- ---- 01, "Proving cases"
 -- 1 + 2^-24 narrows to 1, and 1 + 3 × 2^-24 to 1 + 2^-22

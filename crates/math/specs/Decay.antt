@@ -11,6 +11,13 @@ use Rattle.math.specs.Sine.{series}
 abbrev pub decayDivisors : List Float
 decayDivisors = f64 0x4010_0000_0000_0000 ∷ f64 0x4008_0000_0000_0000 ∷ f64 0x4000_0000_0000_0000 ∷ one ∷ []
 
+-- 8 and 256
+abbrev pub decayEnd : Float
+decayEnd = f64 0x4020_0000_0000_0000
+
+abbrev pub decayScale : Float
+decayScale = f64 0x4070_0000_0000_0000
+
 -- p = p × p, so many times
 unfoldable pub squared : ℕ → Float → Float
 squared zero p = p
@@ -18,4 +25,4 @@ squared (suc k) p = squared k (times p p)
 
 -- E(u), 0 <= u < 8, else 0.0: w = u / 256, the series in w from p = 1, then squared eight times
 unfoldable pub decay : Float → Float
-decay u = cond (le float.zero u && lt u (f64 0x4020_0000_0000_0000)) (squared 8 (series (over u (f64 0x4070_0000_0000_0000)) one decayDivisors)) float.zero
+decay u = cond (le float.zero u && lt u decayEnd) (squared 8 (series (over u decayScale) one decayDivisors)) float.zero

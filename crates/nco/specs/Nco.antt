@@ -29,6 +29,6 @@ sampleOf n = sine (n .phase)
 abbrev pub steppedNco : Nco → Nco
 steppedNco n = record { phase = advanced (n .step) (n .phase); step = n .step; rate = n .rate }
 
--- phases and steps are in [0, TAU)
+-- 01, "When a call is declined": a phase or a step in [0, TAU)
 abbrev pub inTurn : Float → Bool
 inTurn x = le zero x && lt x tau

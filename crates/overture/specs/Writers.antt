@@ -1,5 +1,5 @@
--- What a stage's writer promises of the part of a buffer that is lent to it, and what the fill does. A writer stops where its stage ends,
--- so how much it wrote is its own to say.
+-- 01, "The set": "where a stage ends, the rest of the buffer, from its first unwritten sample, is lent on to the next". What a stage's writer
+-- promises of the part that is lent to it. It stops where its stage ends, so how much it wrote is its own to say.
 use Prim.Native.Nat.{ℕ, suc, _≤_, _<_}
 use mathlib.Core.Path.{_≡_}
 use mathlib.Core.Bool.{Bool, true, false}

@@ -1,4 +1,5 @@
--- A run: some samples in a row over which a clock tells the same. A writer that knows a run works the clock out once for all of it.
+-- No part of 01. A run: some samples in a row over which a clock of 01's tells the same. A writer that knows a run works the clock out once for
+-- all of it.
 use Prim.Native.Nat.{ℕ, zero, suc, _≤_, _<_}
 use mathlib.Core.Path.{_≡_}
 use mathlib.Core.Bool.{Bool, _&&_, Bool·beq}

@@ -1,4 +1,4 @@
--- Numbers and samples as bytes, the low byte first.
+-- No part of 01, for `tap` and `call`: numbers and samples as bytes, the low byte first.
 use Prim.Native.Nat.{ℕ, zero, suc, _/_, _%_}
 use mathlib.Core.List.{List, [], _∷_, _++_}
 use lib.Ieee.{Float, binary32, toBits}

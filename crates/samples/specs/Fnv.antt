@@ -1,4 +1,5 @@
--- FNV-1a, 64 bits wide: each byte is put into the hash by exclusive or, and the hash is then multiplied by the prime, modulo 2^64.
+-- No part of 01, for `tap`: the hash FNV-1a of Fowler, Noll and Vo, 64 bits wide. Each byte is put into the hash by exclusive or, and the hash is
+-- then multiplied by the prime, modulo 2^64.
 use Prim.Native.Nat.{ℕ, _*_, _%_, _^_}
 use mathlib.Core.List.{List, foldl}
 use lib.Bits.{bitXor}

@@ -1,4 +1,5 @@
--- The header of a WAV file of one channel of 32-bit floats, as the format has it: chunks of a name, a length and as many bytes, all numbers low byte first.
+-- No part of 01, for `call`: the header of a WAV file (RIFF WAVE) of one channel of 32-bit floats: chunks of a name, a length and as many bytes,
+-- all numbers low byte first.
 -- The format number is 3, IEEE float, so that its chunk counts the bytes of its extension, none, and a chunk `fact` counts the samples.
 use Prim.Native.Nat.{ℕ, _+_, _*_}
 use mathlib.Core.List.{List, _++_}

@@ -21,7 +21,7 @@ ansamTime = ofNat 3
 abbrev pub cjSilence : Float
 cjSilence = f64 0x3fb3_3333_3333_3333
 
--- the first number from n on at which p holds, among k of them; b is p at n
+-- the first number from n on at which p holds, b being p at n; n + k if it does not hold before. With the k below, it does at 01's rates.
 unfoldable pub firstFrom : (ℕ → Bool) → ℕ → Bool → ℕ → ℕ
 firstFrom p zero b n = n
 firstFrom p (suc k) true n = n

@@ -2,7 +2,8 @@
 use Prim.Native.Nat.{ℕ, zero, suc}
 use mathlib.Core.Bool.{Bool, true, false, _&&_}
 use lib.Ieee.{Float, le, lt}
-use Rattle.math.specs.Float.{zero as none, ofNat, one, plus, minus, over}
+use Rattle.math.specs.Float as float
+use Rattle.math.specs.Float.{ofNat, one, plus, minus, over}
 
 -- 300 / r
 unfoldable pub symbolStep : ℕ → Float
@@ -22,7 +23,7 @@ nextPhase s p = nextPhaseBy (symbolEnds s p) (plus p s)
 
 -- after n samples from a fresh start: the phase, and the bits done
 unfoldable pub phaseAfter : Float → ℕ → Float
-phaseAfter s zero = none
+phaseAfter s zero = float.zero
 phaseAfter s (suc n) = nextPhase s (phaseAfter s n)
 
 abbrev pub doneBy : Bool → ℕ → ℕ
@@ -33,6 +34,6 @@ unfoldable pub doneAfter : Float → ℕ → ℕ
 doneAfter s zero = 0
 doneAfter s (suc n) = doneBy (symbolEnds s (phaseAfter s n)) (doneAfter s n)
 
--- 01, "Sound": symbol phase in [0, 1)
+-- 01, "When a call is declined": symbol phase in [0, 1)
 abbrev pub inSymbol : Float → Bool
-inSymbol p = le none p && lt p one
+inSymbol p = le float.zero p && lt p one

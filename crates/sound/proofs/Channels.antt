@@ -25,9 +25,8 @@ use Rattle.schedule.proofs.SymbolPhase.{zero-in-symbol, phase-stays}
 use Rattle.fsk.specs.declared.FskChannel.{FskChannel}
 use Rattle.fsk.specs.Channel.{toneOf, freshChannel, doneNext, ncoNext, nextChannel}
 use Rattle.sound.specs.Sound.{ncoOk, fskOk}
-use Rattle.sound.specs.Held.{Double, HeldNco, HeldFsk}
 use Rattle.math.proofs.Equal.{eq-self, equal}
-use Rattle.sound.proofs.Held.{stepped-held}
+use Rattle.sound.proofs.Held.{Double, HeldNco, HeldFsk, stepped-held}
 use Rattle.sound.proofs.Oscillators.{Hertz, fresh-ok, stepped-ok, retuned-ok}
 
 tone-hertz : (bit : Bool) → Hertz (toneOf bit)

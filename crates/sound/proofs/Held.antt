@@ -1,11 +1,13 @@
--- Every operation of binary64 gives a number of binary64, so a state that holds such numbers is followed by one that does, and a stage begins with one. Assumes nothing.
+-- Every float of a state is a number of binary64, as in any state that code holds: the laws on sound states ask it, since a definition can be
+-- given any float. Every operation of binary64 gives such a number, so a state that holds them is followed by one that does, and a stage begins
+-- with one. Assumes nothing.
 use mathlib.Core.Bool.{Bool, true, false}
 use mathlib.Core.List.{List}
 use Prim.Native.Nat.{ℕ}
 use lib.IntN.{pos}
-use lib.Dec.{leb}
+use lib.Dec.{T, leb}
 use lib.ListN.{length}
-use lib.Ieee.{Float, binary64}
+use lib.Ieee.{Float, binary64, fits}
 use lib.Ieee.Bits.{ofBits-fits}
 use lib.Ieee.Fits.{div-fits, ofInt-fits}
 use Rattle.math.specs.Float.{tau, ofNat, times}
@@ -29,7 +31,31 @@ use Rattle.stage.specs.Enter.{enterOf}
 use Rattle.stage.specs.Next.{offHookOf, dialToneOf, diallingOf, ringbackOf, ciOf, ansamOf, cmJmOf, cjAt, cjOf, trainingOf, connectedOf, generateOf, onward, stateNext}
 use Rattle.tones.specs.Mixed.{soundedOf, answerOf}
 use Rattle.tones.specs.Dial.{pairStays, takenOver, dialledBy, dialStepOf}
-use Rattle.sound.specs.Held.{HeldNco, HeldFsk, Held}
+
+abbrev pub Double : Float → Type 0
+Double x = T (fits binary64 x)
+
+pub record HeldNco (o : Nco) : Type 0 where
+  pub phase : Double (o .phase)
+  pub step : Double (o .step)
+  pub rate : Double (o .rate)
+
+pub record HeldFsk (f : FskChannel) : Type 0 where
+  pub nco : HeldNco (f .nco)
+  pub phase : Double (f .phase)
+  pub step : Double (f .step)
+
+abbrev pub Held : StageState → Type 0
+Held (OffHook rng n) = Unit {0}
+Held (DialTone a b n) = HeldNco a × HeldNco b
+Held (Dialling i on a b n) = HeldNco a × HeldNco b
+Held (Ringback a b n ring) = HeldNco a × HeldNco b
+Held (Ci f) = HeldFsk f
+Held (Ansam carrier env n) = HeldNco carrier × HeldNco env
+Held (CmJm f) = HeldFsk f
+Held (Cj f z) = HeldFsk f
+Held (Training f) = HeldFsk f
+Held Connected = Unit {0}
 
 -- ---- oscillators
 pub fresh-held : (freq : Float) (r : ℕ) → HeldNco (freshNco freq (ofNat r))

@@ -31,7 +31,7 @@ use Rattle.stage.specs.Next.{offHookOf, dialToneOf, diallingOf, ringbackOf, ciO
 use Rattle.tones.specs.Mixed.{answerOf}
 use Rattle.tones.specs.Dial.{pairStays, takenOver, dialledBy, dialStepOf}
 use Rattle.sound.specs.Sound.{rateOk, digitsOk, ncoOk, digitOk, ringOk, diallingOk, bitsOk, cjOk, stateOk, soundState}
-use Rattle.sound.specs.Held.{HeldNco, HeldFsk, Held}
+use Rattle.sound.proofs.Held.{HeldNco, HeldFsk, Held}
 use Rattle.sound.proofs.Limits.{holds, rate-low, rate-high, digits-few}
 use Rattle.sound.proofs.Dialling.{goes-on}
 use Rattle.sound.proofs.Parts.{tones-apart, tones-made, dialling-apart, dialling-made, ringback-apart, ringback-made, bits-apart, bits-made, cj-apart, cj-made}

@@ -17,8 +17,8 @@ use Rattle.nco.proofs.Steps.{fresh-turning, retuned-turning}
 use Rattle.schedule.proofs.Samples.{rate-value}
 use Rattle.tones.specs.Mixed.{soundedOf}
 use Rattle.sound.specs.Sound.{ncoOk}
-use Rattle.sound.specs.Held.{Double, HeldNco}
 use Rattle.math.proofs.Equal.{eq-self, equal}
+use Rattle.sound.proofs.Held.{Double, HeldNco}
 
 -- a frequency that is a whole number of hertz, as all of 01's are
 pub record Hertz (freq : Float) : Type 0 where

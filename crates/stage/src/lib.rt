@@ -1,6 +1,7 @@
 // The stages of an overture, one sample at a time. A stage's state is a choice whose cases carry
 // their oscillators; each stage has one function that makes its next sample and the state after
-// it, and `generate` only picks among them.
+// it, and `generate` only picks among them. A fill does not come this way: the writers of
+// `overture` play runs of samples, and are held against the same definitions.
 use fsk::FskChannel;
 use nco::Nco;
 use tones::Dial;

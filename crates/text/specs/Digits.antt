@@ -1,4 +1,4 @@
--- Numbers as text: the digits of a number in a base up to 16, the most significant first.
+-- 01, "Proving cases", has `wall` print numbers in decimal: the digits of a number in a base up to 16, the most significant first.
 use Prim.Native.Char.{code}
 use Prim.Native.Nat.{ℕ, zero, suc, _+_, _-_, _/_, _%_}
 use mathlib.Core.Bool.{Bool, true, false}

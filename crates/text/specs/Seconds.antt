@@ -1,4 +1,5 @@
--- How long samples last, in seconds: whole seconds, a point and four decimals, rounded to the nearest, a half up.
+-- No part of 01, for the table that `call` prints: how long samples last, in whole seconds, a point and four decimals, rounded to the nearest, a
+-- half up.
 use Prim.Native.Nat.{ℕ, _+_, _*_, _/_}
 use mathlib.Core.Bool.{Bool, true, false}
 use mathlib.Core.List.{List, [], _++_}

@@ -1,4 +1,4 @@
--- A text written into a buffer at a place: the whole of it, or nothing where it does not fit.
+-- No part of 01, for what the programs print: a text written into a buffer at a place, the whole of it, or nothing where it does not fit.
 use Prim.Native.Nat.{ℕ, _+_}
 use mathlib.Core.Bool.{Bool, true, false}
 use mathlib.Core.List.{List, _++_}
