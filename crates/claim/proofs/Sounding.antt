@@ -12,11 +12,6 @@ use Rattle.sound.proofs.Held.{next-held}
 use Rattle.sound.proofs.Next.{next-sound}
 
 module _ (digits : List ℕ) (r : ℕ) where
-  pub after-held : (k : ℕ) (s : StageState) → Held s → Held (after k s digits r)
-  unfolding after
-  after-held zero s h = h
-  after-held (suc k) s h = after-held k (stateNext s digits r) (next-held s digits r h)
-
   pub after-sound : (k : ℕ) (s : StageState) → Held s → soundState s digits r ≡ true → soundState (after k s digits r) digits r ≡ true
   unfolding after
   after-sound zero s h e = e
