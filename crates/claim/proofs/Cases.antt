@@ -1,14 +1,13 @@
 -- 01, "Proving cases": all of them in one table, over the definitions that the set's calls are proved to equal. Each stands in the crate
 -- whose definition it computes, and is cited here. Assumes nothing.
-use mathlib.Core.Path.{_≡_, refl}
+use mathlib.Core.Path.{_≡_}
 use mathlib.Core.List.{[]}
 use Rattle.ascii.specs.Ascii.{ascii}
-use Rattle.ascii.specs.Upper.{upper}
 use Rattle.math.specs.Float.{f64, one}
 use Rattle.math.specs.Narrow.{narrowed}
 use Rattle.math.proofs.Constants.{tie-down, tie-up}
-use Rattle.keys.specs.Keys.{digitsOf, keysOf, isKey, keyRow}
-use Rattle.keys.proofs.Line.{dials-12}
+use Rattle.keys.specs.Keys.{digitsOf}
+use Rattle.keys.proofs.Line.{dials-12, dials-abcd}
 use Rattle.schedule.specs.Time.{samplesIn}
 use Rattle.schedule.specs.Length.{clickTime, diallingLength}
 use Rattle.schedule.proofs.Cases.{click-at-8000, no-digits-at-8000, two-digits-at-8000, three-digits-at-8000}
@@ -41,15 +40,11 @@ pub record ProvingCases : Type 0 where
   -- 1 + 2^-24 narrows to 1; 1 + 3 × 2^-24 to 1 + 2^-22
   pub narrowing : (narrowed (f64 0x3ff0_0000_1000_0000) ≡ one) × (narrowed (f64 0x3ff0_0000_3000_0000) ≡ f64 0x3ff0_0000_4000_0000)
 
-four-keys : digitsOf (ascii "ABCDEF") ≡ ascii "ABCD"
-unfolding digitsOf keysOf isKey keyRow upper
-four-keys = refl
-
 pub proving-cases : ProvingCases
 proving-cases =
     record {
       dial-12 = (atdt12 .0, rw (atdt12 .1) dials-12);
-      dial-abcd = (atdtabcdef .0, rw (atdtabcdef .1) four-keys);
+      dial-abcd = (atdtabcdef .0, rw (atdtabcdef .1) dials-abcd);
       no-dial = (atdp1, at-dt1);
       plus = first-plus;
       late-plus = second-plus .0;

@@ -1,3 +1,4 @@
+-- The claim and what it rests on, a worked list, and 01's proving cases.
 pub mod Sounding
 pub mod Kept
 pub mod Claim

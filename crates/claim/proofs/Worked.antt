@@ -27,7 +27,7 @@ use Rattle.session.specs.declared.SessionState.the-variants.{Dialling, Connecte
 use Rattle.sound.specs.Sound.{rateOk}
 use Rattle.set.specs.declared.Set.{Set}
 use Rattle.set.specs.Set.{freshSet}
-use Rattle.set.specs.Book.{Call, typing, filling, Book, blank, lengthOf, stageOfSample, shownBy, entered}
+use Rattle.set.specs.Book.{Call, typing, filling, Book, blank, lengthOf, stageOfSample, shownBy, lit, entered}
 use Rattle.set.proofs.Reached.{reached}
 use Rattle.claim.specs.Trace.{Event, callOf, Trace, setAfter}
 use Rattle.claim.specs.Claim.{Since, notCalled, bookAfter, sinceAfter}
@@ -80,21 +80,15 @@ abbrev after-fill : (up : Bool) → SessionState
 after-fill true = Connected
 after-fill false = Dialling
 
+lit-at : (up : Bool) (shown count : ℕ) (k : Book) → k .digits ≡ ascii "12" → At (after-fill up) count (lit up shown count k)
+lit-at true shown count k e = record { state-is = refl; digits-are = e; count-is = refl }
+lit-at false shown count k e = record { state-is = refl; digits-are = e; count-is = refl }
+
 fill-at : (up : Bool) (count b : ℕ) (k : Book) → At Dialling count k → b ≤ 65536
     → eqb (shownBy (ascii "12") 8000 count b) 10 ≡ up → At (after-fill up) (count + b) (entered 8000 k (filling b))
 unfolding entered
-fill-at true count b k a short e =
-    record {
-      state-is = rw (a .state-is, le-ltb 65536 b short, a .digits-are, a .count-is, e);
-      digits-are = rw (a .state-is, le-ltb 65536 b short, a .digits-are, a .count-is, e);
-      count-is = rw (a .state-is, le-ltb 65536 b short, a .digits-are, a .count-is, e);
-    }
-fill-at false count b k a short e =
-    record {
-      state-is = rw (a .state-is, le-ltb 65536 b short, a .digits-are, a .count-is, e);
-      digits-are = rw (a .state-is, le-ltb 65536 b short, a .digits-are, a .count-is, e);
-      count-is = rw (a .state-is, le-ltb 65536 b short, a .digits-are, a .count-is, e);
-    }
+fill-at up count b k a short e =
+    rw (a .state-is, le-ltb 65536 b short, a .digits-are, a .count-is, e) (lit-at up _ (count + b) _ refl)
 
 -- across OffHook's end at 400, across DialTone's at 8,400, empty, up to Dialling's last sample, the longest, and all that is left; then empty at T
 abbrev pub fills : List Call

@@ -1,7 +1,7 @@
 -- The parser's numbers are those of the line, each at most the largest of 64 bits, with a mark where one is beyond.
 -- No call is lost by that: a number past the largest makes an other line, but for a rate, which is out of its limits either way. Assumes nothing.
 use Prim.Native.Nat.{ℕ, _+_, _*_, _^_, _<_, _≤_, min}
-use mathlib.Core.Bool.{Bool, true, false, _&&_, _||_}
+use mathlib.Core.Bool.{Bool, true, false, _&&_, _||_, and-false, or-comm}
 use mathlib.Core.Path.{_≡_, refl, ap, sym}
 use native.Mathlib.Omega.{arith}
 use borrow.Author.Tests.{ltb-true, ltb-false, lt-ltb, le-ltb, lt-leb}
@@ -32,16 +32,6 @@ size v = go (beyond v) refl
 abbrev pub held : Bool → ℕ → ℕ → Bool → ℕ → ℕ → ℕ → Bool → Parser
 held x letter k e w l v o =
     record { extended = x; letter = letter; commas = k; empty = e; earlier = w; last = l; number = capped v; over = beyond v || o; other = false }
-
-or-comm : (a b : Bool) → a || b ≡ b || a
-or-comm true true = refl
-or-comm true false = refl
-or-comm false true = refl
-or-comm false false = refl
-
-and-false : (a : Bool) → a && false ≡ false
-and-false true = refl
-and-false false = refl
 
 over-step : {v : ℕ} (d : ℕ) (o : Bool) → Size v → (beyond v || o) || ltb largest (capped v * 10 + d) ≡ beyond (v * 10 + d) || o
 over-step {v} d o (within e q) = rw (e, q) (or-comm o (ltb largest (v * 10 + d)))

@@ -2,7 +2,7 @@
 -- It goes through the fields in order (`by-fields`), and of each later one it keeps the number or is of no use from there on (`Taken`). Assumes nothing.
 use Prim.Native.Char.{code}
 use Prim.Native.Nat.{ℕ, _+_, _-_, _*_, _<_, _≤_}
-use mathlib.Core.Bool.{Bool, true, false, _&&_, _||_}
+use mathlib.Core.Bool.{Bool, true, false, _||_, and-eq-true-iff}
 use mathlib.Core.List.{List, [], _∷_, _++_, foldl, foldl-append}
 use mathlib.Core.Option.{Option, some, none}
 use mathlib.Core.Path.{_≡_, refl, ap, sym, _∙_}
@@ -79,14 +79,6 @@ through-other (g ∷ gs) p f h =
     through-other gs (commaOf q) g (field-other g (commaOf q) (comma-other q h))
 
 -- ---- a field of digits, and one that is none
-and-left : (a b : Bool) → a && b ≡ true → a ≡ true
-and-left true b h = refl
-and-left false b h = h
-
-and-right : (a b : Bool) → a && b ≡ true → b ≡ true
-and-right true b h = h
-and-right false b h = cc
-
 no-number : (f : List ℕ) (p : Parser) → eqb (p .commas) 0 ≡ false → allDigits f ≡ false → foldl plainOf p f .other ≡ true
 unfolding allDigits plainOf plainIf digitIf digitOf spoiledOf
 no-number [] p c h = cc
@@ -104,10 +96,10 @@ module _ (x : Bool) (letter k : ℕ) (later : eqb k 0 ≡ false) (w l : ℕ) (o 
 
   digits-held : (b : ℕ) (f : List ℕ) (e : Bool) (v : ℕ) → allDigits (b ∷ f) ≡ true → foldl plainOf (held x letter k e w l v o) (b ∷ f) ≡ held x letter k false w l (valueFrom v (b ∷ f)) o
   unfolding allDigits valueFrom
-  digits-held b [] e v h = digit-held b e v (and-left (isDigit b) _ h)
+  digits-held b [] e v h = digit-held b e v (and-eq-true-iff (isDigit b) _ .0 h .0)
   digits-held b (a ∷ f) e v h =
-      rw (digit-held b e v (and-left (isDigit b) _ h))
-      (digits-held a f false (v * 10 + (b - code "0")) (and-right (isDigit b) _ h))
+      rw (digit-held b e v (and-eq-true-iff (isDigit b) _ .0 h .0))
+      (digits-held a f false (v * 10 + (b - code "0")) (and-eq-true-iff (isDigit b) _ .0 h .1))
 
   -- what a field leaves: its number, or a parser whose line is an other line, whatever follows
   data Taken (f : List ℕ) : Type 0 where

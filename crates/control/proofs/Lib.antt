@@ -1,1 +1,2 @@
+-- Laws on a dial line's bytes.
 pub mod Prefix

@@ -1,10 +1,10 @@
--- A digit's middle is a small number, and it lies in the digit's tone. Assumes nothing.
+-- What a cue answers, by its cause: the middle of a digit's tone lies in that tone, and a refused cue has none. The middle is a small number. Assumes nothing.
 use Prim.Native.Nat.{ℕ, _+_, _*_, _/_, _≤_, _<_}
 use native.Mathlib.Nat.{le-trans, mul-le-mul}
 use native.Mathlib.Omega.{arith}
 use mathlib.Core.Path.{_≡_, refl, sym}
-use mathlib.Core.Bool.{true, false, true≢false}
-use lib.Dec.{lit≤, ltb, eqb}
+use mathlib.Core.Bool.{true, false, true≢false, and-eq-true-iff}
+use lib.Dec.{lit≤, eqb}
 use lib.ListN.{length}
 use lib.Seq.{length-take-le}
 use borrow.Author.Tests.{ltb-true}
@@ -17,7 +17,7 @@ use Rattle.set.specs.declared.Refusal.the-variants.{Accepted, Unsound, Position
 use Rattle.set.specs.declared.Set.{Set}
 use Rattle.set.specs.Sound.{sound}
 use Rattle.cue.specs.Cue.{cuable, cueRefusal, CueIs}
-use Rattle.set.proofs.Ranges.{right, sound-digits, sound-rate}
+use Rattle.set.proofs.Ranges.{sound-digits, sound-rate}
 
 pub place-small : (p r : ℕ) → p < 76 → r ≤ 192000 → (20 * p + 5) * r ≤ 292800000
 place-small p r h k = le-trans (mul-le-mul (few p h) k) (lit≤ tt)
@@ -26,7 +26,7 @@ place-small p r h k = le-trans (mul-le-mul (few p h) k) (lit≤ tt)
     few p h = omega arith
 
 pub below : (s : Set) (p : ℕ) → cuable s p ≡ true → p < s .session .digits .len
-below s p e = ltb-true _ _ (right (eqb (stateNumber (s .session .state)) 1) (ltb p (s .session .digits .len)) e)
+below s p e = ltb-true _ _ (and-eq-true-iff (eqb (stateNumber (s .session .state)) 1) _ .0 e .1)
 
 module _ (s : Set) (p m : ℕ) where
   -- an accepted cue is the middle of the digit's tone

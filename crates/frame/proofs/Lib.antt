@@ -1,1 +1,2 @@
+-- Laws on frames.
 pub mod Bits

@@ -1,4 +1,4 @@
-// Asynchronous framing, and the payloads that the stages send. `true` is mark, which is binary 1.
+// Asynchronous framing, and the payloads that the stages send. A mark, 01's bit 1, is `true`.
 ghost use mathlib.Core.Path.{_≡_};
 ghost use Rattle.frame.specs.Frame.{frameOf, bitAt};
 
@@ -11,7 +11,7 @@ pub const CJ_PAYLOAD: [u8; 6] = *b"CJCJCJ";
 
 pub const TRAINING_PAYLOAD: [u8; 30] = [0x55; 30];
 
-// One byte as ten bits: a space to start, the data bits lowest first, a mark to stop.
+// A byte's frame: a space to start, the data bits lowest first, a mark to stop.
 pub fn frame_byte(b: u8) -> [bool; 10]
     ensures { λ r. ⌜ r ≡ frameOf b ⌝ }
 {

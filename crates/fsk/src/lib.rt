@@ -1,6 +1,6 @@
-// A bit modulator for V.21's low channel. The first bit's tone is set before its first sample,
-// so a payload's bits take just their symbol periods. The bits themselves are no part of the
-// channel: it holds how many are done, and its caller names the payload.
+// Bits on V.21's low channel. A fresh channel is already at its first bit's tone, so that a payload's
+// bits take just their symbol periods. The bits themselves are no part of the channel: it holds how
+// many are done, and its caller names the payload.
 use nco::Nco;
 ghost use mathlib.Core.Path.{_≡_};
 ghost use Rattle.fsk.specs.Channel.{toneOf, freshChannel, channelSample, nextChannel};

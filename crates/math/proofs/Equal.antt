@@ -79,10 +79,10 @@ record One (x : Float) (s t : Bool) (a c b d : ℕ) : Type 0 where
   sign : s ≡ t
   value : b * c ≡ a * d
 
-one-value : (x : Float) (s t : Bool) (a c b d : ℕ) → HasValue x s a c → HasValue x t b d → One x s t a c b d
-one-value nan s t a c b d v w = absurd v
-one-value (inf z) s t a c b d v w = absurd v
-one-value (fin z m e) s t a c b d v w =
+single-value : (x : Float) (s t : Bool) (a c b d : ℕ) → HasValue x s a c → HasValue x t b d → One x s t a c b d
+single-value nan s t a c b d v w = absurd v
+single-value (inf z) s t a c b d v w = absurd v
+single-value (fin z m e) s t a c b d v w =
     record {
       number = tt;
       sign = sym (v .0) ∙ w .0;
@@ -93,9 +93,9 @@ one-value (fin z m e) s t a c b d v w =
 pub equal : (x y : Float) (a c : ℕ) → 0 < a → 0 < c → HasValue y false a c → T (fits binary64 x) → T (fits binary64 y) → T (eq x y) → x ≡ y
 equal x y a c A C v hx hy h =
     let u : HasValue x false a c = same-value x y a c A v h in
-    let f = fields-of x hx (one-value x false false a c a c u u .number) in
+    let f = fields-of x hx (single-value x false false a c a c u u .number) in
     let k = magnitude (f .e) (f .t) in
-    let o = one-value x false (f .sign) a c k (2 ^ 1074) u (f .value) in
+    let o = single-value x false (f .sign) a c k (2 ^ 1074) u (f .value) in
     let xk : HasValue x false k (2 ^ 1074) = subst (λ (s : Bool). HasValue x s k (2 ^ 1074)) (sym (o .sign)) (f .value) in
     let yk : HasValue y false k (2 ^ 1074) = rescale y false a c k (2 ^ 1074) C (o .value) v in
     sym (ofBits-toBits binary64 x hx) ∙ ap (ofBits binary64) (same-pattern x y (f .e) (f .t) (f .digits) xk yk) ∙ ofBits-toBits binary64 y hy

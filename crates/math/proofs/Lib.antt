@@ -1,3 +1,4 @@
+-- Laws on IEEE 754's numbers, which the crates above cite.
 pub mod Tests
 pub mod Error
 pub mod Values

@@ -1,6 +1,6 @@
 -- What a test or a comparison of numbers gives: `closest` by how twice the remainder compares, and `1 << k`. Assumes nothing.
 use mathlib.Core.Path.{_≡_, refl, sym, ap, _∙_, subst}
-use mathlib.Core.Bool.{Bool, true, false, not, _&&_, true≢false}
+use mathlib.Core.Bool.{Bool, true, false, not, Bool·beq}
 use Prim.Native.Nat.{ℕ, _+_, _*_, _/_, _%_, _^_, _≤_, _<_, compare, Ordering, Ordering·lt, Ordering·eq, Ordering·gt}
 use native.Mathlib.Numerals.{add-one}
 use native.Mathlib.Omega.{arith}
@@ -18,10 +18,12 @@ same-test true false f g = absurd (f tt)
 same-test false true f g = absurd (g tt)
 same-test false false f g = refl
 
--- both of two tests hold
-pub both-true : (a b : Bool) → a && b ≡ true → (a ≡ true) × (b ≡ true)
-both-true true b h = (refl, h)
-both-true false b h = absurd (true≢false (sym h))
+-- two tests that `==` finds alike are one
+pub beq-same : (a b : Bool) → Bool·beq a b ≡ true → a ≡ b
+beq-same true true e = refl
+beq-same true false e = sym e
+beq-same false true e = e
+beq-same false false e = refl
 
 -- what `compare` says
 abbrev pub Compared : Ordering → ℕ → ℕ → Type 0

@@ -1,2 +1,3 @@
+-- Laws on phases and steps.
 pub mod Phase
 pub mod Steps

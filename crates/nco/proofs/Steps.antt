@@ -2,18 +2,18 @@
 -- and that over a rate of 8,000 or more is at most 5. Assumes nothing.
 use mathlib.Core.Path.{_≡_, refl, sym, subst}
 use mathlib.Core.Bool.{Bool, true, false, _&&_}
-use mathlib.Core.List.{List, [], _∷_, map}
+use mathlib.Core.List.{List, [], _∷_}
 use Prim.Native.Nat.{ℕ, _*_, _^_, _≤_, _<_}
 use native.Mathlib.Nat.{le-trans, lt-of-le-of-lt, mul-le-mul-right, mul-le-mul-left, mul-pos, mul-one}
 use native.Mathlib.Omega.{arith}
 use lib.Dec.{T, leb, leb→le, lit<, lit≤}
 use lib.Pow.{pow-pos}
-use lib.Ieee.{Float, binary64, le, lt, ofInt, ofBits}
+use lib.Ieee.{Float, binary64, le, lt, ofBits}
 use lib.Ieee.Bits.{ofBits-fits}
 use lib.Ieee.Fits.{and-l, and-r, div-fits}
 use lib.Ieee.Exact.{HasValue}
 use Rattle.math.specs.Float as float
-use Rattle.math.specs.Float.{f64, tau, ofNat, times}
+use Rattle.math.specs.Float.{tau, ofNat, times}
 use Rattle.math.proofs.Error.{rescale}
 use Rattle.math.proofs.Values.{mul-by, div-by, nat-value}
 use Rattle.math.proofs.Bounds.{AtMost, at-most}
@@ -46,12 +46,6 @@ step-in-turn freq k r f K lo hi =
 -- ---- 01's frequencies: the two of a dialling stage with no digits, Ansam's swing, the tones, Q.23's rows and columns, V.21's bits, Ansam
 abbrev pub frequencies : List ℕ
 frequencies = 1 ∷ 15 ∷ 350 ∷ 400 ∷ 450 ∷ 697 ∷ 770 ∷ 852 ∷ 941 ∷ 980 ∷ 1180 ∷ 1209 ∷ 1336 ∷ 1477 ∷ 1633 ∷ 2100 ∷ []
-
-pub frequency-patterns :
-    map ofNat frequencies
-    ≡ map f64 (0x3ff0_0000_0000_0000 ∷ 0x402e_0000_0000_0000 ∷ 0x4075_e000_0000_0000 ∷ 0x4079_0000_0000_0000 ∷ 0x407c_2000_0000_0000 ∷ 0x4085_c800_0000_0000 ∷ 0x4088_1000_0000_0000 ∷ 0x408a_a000_0000_0000 ∷ 0x408d_6800_0000_0000 ∷ 0x408e_a000_0000_0000 ∷ 0x4092_7000_0000_0000 ∷ 0x4092_e400_0000_0000 ∷ 0x4094_e000_0000_0000 ∷ 0x4097_1400_0000_0000 ∷ 0x4099_8400_0000_0000 ∷ 0x40a0_6800_0000_0000 ∷ [])
-unfolding ofInt ofBits
-frequency-patterns = refl
 
 abbrev pub Each : (ℕ → Type 0) → List ℕ → Type 0
 Each p [] = Unit {0}

@@ -1,7 +1,7 @@
 -- The four stages that send bits, as the writer of bits takes them, and Cj's zeros: what their next sample and state are. By
 -- computation, with Cj's test given. Assumes nothing.
-use Prim.Native.Nat.{ℕ, _≤_, _<_}
-use mathlib.Core.Path.{_≡_, refl, ap}
+use Prim.Native.Nat.{ℕ, _≤_}
+use mathlib.Core.Path.{_≡_, refl, ap, _∙_}
 use mathlib.Core.Bool.{Bool, true, false}
 use mathlib.Core.List.{List}
 use lib.Dec.{leb, ltb}
@@ -11,6 +11,7 @@ use Rattle.frame.specs.Frame.{ciPayload, cmJmPayload, cjPayload, trainingPayloa
 use Rattle.schedule.specs.Time.{samplesIn, oneMore}
 use Rattle.schedule.specs.Length.{cjSilence}
 use Rattle.fsk.specs.declared.FskChannel.{FskChannel}
+use Rattle.fsk.specs.Channel.{channelSample, nextChannel}
 use Rattle.stage.specs.declared.Stage.the-variants as stage
 use Rattle.stage.specs.declared.StageState.{StageState}
 use Rattle.stage.specs.declared.StageState.the-variants.{Ci, CmJm, Cj, Training}
@@ -20,42 +21,32 @@ use Rattle.stage.specs.Next.{sampleNext, stateNext, onward, generateOf, ciOf, c
 use Rattle.overture.specs.Writers.{Sends}
 
 module _ (digits : List ℕ) (r : ℕ) where
-  -- a stage of bits alone: the test of its end is the writer's
-  bits-on : (s : StageState) (total k : ℕ) → k < total → onward (leb total k) s digits r ≡ s
-  bits-on s total k h = ap (λ (b : Bool). onward b s digits r) (lt-leb total k h)
-
-  bits-off : (s : StageState) (total k : ℕ) → total ≤ k → onward (leb total k) s digits r ≡ enterOf (nextStage (stageOf s)) digits r
-  bits-off s total k h = ap (λ (b : Bool). onward b s digits r) (le-leb total k h)
+  -- a stage that is a channel and ends with its bits: the test of its end is the writer's
+  module _ (state : FskChannel → StageState) (next : StageState) (payload : List ℕ) (total : ℕ)
+      (stage : (f g : FskChannel) → stageOf (state f) ≡ stageOf (state g))
+      (sample : (f : FskChannel) → sampleNext (state f) digits r ≡ channelSample f)
+      (moves : (f : FskChannel) → stateNext (state f) digits r ≡ onward (leb total (nextChannel f payload .done)) (state (nextChannel f payload)) digits r)
+      (ends : (f : FskChannel) → onward true (state f) digits r ≡ next) where
+    bits-send : Sends state (λ f. next) (λ f. true) payload total digits r
+    bits-send = record {
+      stage = stage;
+      sample = λ f e. sample f;
+      on = λ f e h. moves f ∙ rw (lt-leb total _ h);
+      off = λ f e h. moves f ∙ rw (le-leb total _ h) (ends (nextChannel f payload));
+      kept = λ f h. refl;
+    }
 
   pub ci-sends : Sends Ci (λ f. enterOf stage.Ansam digits r) (λ f. true) ciPayload 60 digits r
   unfolding sampleNext stateNext generateOf ciOf stageOf nextStage
-  ci-sends = record {
-    stage = λ f g. refl;
-    sample = λ f e. refl;
-    on = λ f e h. bits-on _ 60 _ h;
-    off = λ f e h. bits-off _ 60 _ h;
-    kept = λ f h. refl;
-  }
+  ci-sends = bits-send Ci _ ciPayload 60 (λ f g. refl) (λ f. refl) (λ f. refl) (λ f. refl)
 
   pub cm-jm-sends : Sends CmJm (λ f. enterOf stage.Cj digits r) (λ f. true) cmJmPayload 80 digits r
   unfolding sampleNext stateNext generateOf cmJmOf stageOf nextStage
-  cm-jm-sends = record {
-    stage = λ f g. refl;
-    sample = λ f e. refl;
-    on = λ f e h. bits-on _ 80 _ h;
-    off = λ f e h. bits-off _ 80 _ h;
-    kept = λ f h. refl;
-  }
+  cm-jm-sends = bits-send CmJm _ cmJmPayload 80 (λ f g. refl) (λ f. refl) (λ f. refl) (λ f. refl)
 
   pub training-sends : Sends Training (λ f. enterOf stage.Connected digits r) (λ f. true) trainingPayload 300 digits r
   unfolding sampleNext stateNext generateOf trainingOf stageOf nextStage
-  training-sends = record {
-    stage = λ f g. refl;
-    sample = λ f e. refl;
-    on = λ f e h. bits-on _ 300 _ h;
-    off = λ f e h. bits-off _ 300 _ h;
-    kept = λ f h. refl;
-  }
+  training-sends = bits-send Training _ trainingPayload 300 (λ f g. refl) (λ f. refl) (λ f. refl) (λ f. refl)
 
   -- Cj does not end with its bits
   pub cj-sends : (z : ℕ) → Sends (λ f. Cj f z) (λ f. Cj f z) (λ f. ltb (f .done) 60) cjPayload 60 digits r

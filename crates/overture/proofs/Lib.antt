@@ -1,3 +1,4 @@
+-- Laws of the iteration, and of the writers that carry it out.
 pub mod Iteration
 pub mod Writing
 pub mod Bits

@@ -1,8 +1,7 @@
 -- DialTone, Ansam, Ringback and Dialling sound alike over a run of their clocks, and what is then written and left. By their definitions, with the
 -- clock told by the run. Assumes nothing.
 use Prim.Native.Nat.{ℕ, zero, suc, _≤_, _<_}
-use native.Mathlib.Nat.{lt-of-lt-of-le, le-of-eq}
-use native.Mathlib.Omega.{arith}
+use native.Mathlib.Nat.{lt-of-lt-of-le, le-of-eq, not-suc-le-zero}
 use mathlib.Core.Path.{_≡_, refl, sym, ap, subst, _∙_}
 use mathlib.Core.Bool.{Bool, true, false, Bool·beq}
 use mathlib.Core.List.{List}
@@ -42,10 +41,7 @@ module _ (digits : List ℕ) (r n : ℕ) where
     before c early x y (suc j) l = ap (λ (b : Bool). onward b (s x y (suc j)) digits r) (lt-leb end (counted (suc j) n) (early j l))
 
     at-last : (c : ℕ) → 0 < c → (x y : Nco) → atCount x y c ≡ onward (leb end (counted c n)) (s x y c) digits r
-    at-last zero h x y = absurd (no h)
-      where
-        no : 0 < 0 → ⊥
-        no h = omega arith
+    at-last zero h x y = absurd (not-suc-le-zero h)
     at-last (suc j) h x y = refl
 
     module _ (f : Nco → Nco → Mixed) (c : ℕ) (early : (j : ℕ) → suc j < c → counted (suc j) n < end)
@@ -128,10 +124,7 @@ module _ (digits : List ℕ) (r n : ℕ) where
     rings-stage x y u v (suc j) = refl
 
     last-ring : (x y : Nco) (j : ℕ) → 0 < j → ringsAt x y j ≡ Ringback x y (counted j n) (ringAt (timeAt r n))
-    last-ring x y zero h = absurd (no h)
-      where
-        no : 0 < 0 → ⊥
-        no h = omega arith
+    last-ring x y zero h = absurd (not-suc-le-zero h)
     last-ring x y (suc j) h = refl
 
     ringback-wrote : (a b : Nco) (was is : List Float) (p : Pair) → PlayedIs (soundedOf on) c a b was is p → (x : StageState)

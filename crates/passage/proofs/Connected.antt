@@ -1,15 +1,13 @@
 -- What an overture's length says: the line is up from sample T on and nowhere before, so there is one such T, and past it all samples are zeros.
 -- Connected is followed by itself. Assumes nothing.
-use mathlib.Core.Path.{_≡_, refl, ap, subst, _∙_}
+use mathlib.Core.Path.{_≡_, refl, sym, ap, subst, _∙_}
 use mathlib.Core.Logic.{_↔_}
 use mathlib.Core.List.{List, _∷_, _++_}
 use Prim.Native.Nat.{ℕ, zero, suc, _+_, _-_, _≤_, _<_}
 use native.Mathlib.Nat.{le-refl, le-antisymm, le-of-suc-le-suc, lt-of-not-le, add-zero, add-sub-of-le}
 use native.Mathlib.Omega.{arith}
 use lib.ListN.{replicate}
-use lib.Ieee.{Float, binary32, round, ofBits}
-use Rattle.math.specs.Float as float
-use Rattle.math.specs.Narrow.{narrowed}
+use lib.Ieee.{Float, binary32, ofBits}
 use Rattle.stage.specs.declared.Stage.the-variants as stage
 use Rattle.stage.specs.declared.StageState.the-variants.{Connected}
 use Rattle.stage.specs.Stage.{stageNumber, stageOf}
@@ -17,14 +15,11 @@ use Rattle.stage.specs.Enter.{enterOf}
 use Rattle.stage.specs.Next.{connectedOf, generateOf, sampleNext, stateNext}
 use Rattle.overture.specs.Iteration.{fresh, after, samples}
 use Rattle.overture.proofs.Iteration.{samples-add}
+use Rattle.overture.proofs.Writing.{rest-narrow}
 use Rattle.passage.specs.Overture.{HasLength}
 use Rattle.passage.proofs.Lasting.{Lasts}
 
 -- ---- from Connected on
-zero-narrowed : narrowed float.zero ≡ ofBits binary32 0
-unfolding narrowed ofBits round
-zero-narrowed = refl
-
 module _ (digits : List ℕ) (r : ℕ) where
   pub connected-stays : (j : ℕ) → after j Connected digits r ≡ Connected
   unfolding after stateNext generateOf connectedOf
@@ -42,7 +37,7 @@ module _ (digits : List ℕ) (r : ℕ) where
   pub connected-zeros : (j : ℕ) → samples j Connected digits r ≡ replicate j (ofBits binary32 0)
   unfolding samples stateNext sampleNext generateOf connectedOf
   connected-zeros zero = refl
-  connected-zeros (suc j) = ap (λ (x : Float). x ∷ samples j Connected digits r) zero-narrowed ∙ ap (λ (l : List Float). ofBits binary32 0 ∷ l) (connected-zeros j)
+  connected-zeros (suc j) = ap (λ (x : Float). x ∷ samples j Connected digits r) (sym rest-narrow) ∙ ap (λ (l : List Float). ofBits binary32 0 ∷ l) (connected-zeros j)
 
   -- ---- an overture of the length T
   module _ (T : ℕ) (h : HasLength digits r T) where

@@ -1,7 +1,7 @@
 -- Dialling: after n samples its count is n, its pair of digit and tone is that of t = n / r, and in tone its oscillators are the digit's key's.
 -- So it ends at the first n at which i >= d, or with its one sample where there are no digits. Assumes nothing.
 use mathlib.Core.Path.{_≡_, refl, sym, ap, subst, _∙_}
-use mathlib.Core.Bool.{Bool, true, false, _&&_, Bool·beq, true≢false}
+use mathlib.Core.Bool.{Bool, true, false, Bool·beq, true≢false, and-eq-true-iff}
 use mathlib.Core.List.{List, [], _∷_}
 use Prim.Native.Nat.{ℕ, zero, suc, _≤_, _<_}
 use native.Mathlib.Nat.{le-trans, le-of-lt, zero-lt-suc, zero-mul}
@@ -15,6 +15,7 @@ use borrow.Author.Tests.{eqb-true, lt-leb}
 use Rattle.math.specs.Float as float
 use Rattle.math.specs.Float.{ofNat}
 use Rattle.math.specs.Whole.{floorOf}
+use Rattle.math.proofs.Tests.{beq-same}
 use Rattle.math.proofs.Values.{nat-value, div-by}
 use Rattle.nco.specs.Nco.{stepOf}
 use Rattle.schedule.specs.Time.{timeAt, oneMore}
@@ -75,21 +76,11 @@ taken-pair digits r i true false dial h = record { digit = refl; tone = refl; lo
 taken-pair digits r i false false dial h = record { digit = refl; tone = refl; low = λ e. absurd (true≢false (sym e)); high = λ e. absurd (true≢false (sym e)) }
 
 -- one that stays before the end did not change
-beq-same : (a b : Bool) → Bool·beq a b ≡ true → b ≡ a
-beq-same true true e = refl
-beq-same true false e = e
-beq-same false true e = sym e
-beq-same false false e = refl
-
-both : (a b : Bool) → (a && b) ≡ true → (a ≡ true) × (b ≡ true)
-both true b e = (refl, e)
-both false b e = absurd (true≢false (sym e))
-
 stays-same : (d i : ℕ) (on : Bool) (digit : ℕ) (tone : Bool) → i < d → pairStays d i on digit tone ≡ true → (digit ≡ i) × (tone ≡ on)
 unfolding pairStays
 stays-same d i on digit tone h e =
-    let two = both (eqb i digit) (Bool·beq on tone) (rw (lt-leb d i h) at e) in
-    (sym (eqb-true i digit (two .0)), beq-same on tone (two .1))
+    let (digits, tones) = and-eq-true-iff (eqb i digit) (Bool·beq on tone) .0 (rw (lt-leb d i h) at e) in
+    (sym (eqb-true i digit digits), sym (beq-same on tone tones))
 
 -- ---- the stage's state after n samples
 pub record Dials (digits : List ℕ) (r n : ℕ) (s : StageState) : Type 0 where

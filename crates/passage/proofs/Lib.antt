@@ -1,3 +1,4 @@
+-- The way of an overture through its stages.
 pub mod Stages
 pub mod Lasting
 pub mod Counted

@@ -1,7 +1,7 @@
 -- What lies between the ends of a run agrees with them: t never falls as n grows, and neither do t / 0.45, its floor, or t - 3. Rounding
 -- never turns two numbers round, so no error is worked out. Values are in units of 2 ^ -1074, which hold them all. Assumes nothing.
 use mathlib.Core.Path.{_≡_, refl, sym, ap, _∙_, subst}
-use mathlib.Core.Bool.{Bool, true, false, _&&_, Bool·beq, true≢false}
+use mathlib.Core.Bool.{Bool, true, false, _&&_, Bool·beq, and-eq-true-iff}
 use Prim.Native.Nat.{ℕ, zero, suc, _+_, _-_, _*_, _/_, _%_, _^_, _≤_, _<_}
 use native.Mathlib.Nat.{le-trans, le-of-eq, le-antisymm, lt-of-le-of-lt, mul-comm, mul-le-mul-right, mul-right-comm, mul-div-le, le-div-iff-mul-le}
 use native.Mathlib.Omega.{arith}
@@ -13,11 +13,12 @@ use lib.Ieee.Order.{round-mono}
 use borrow.Author.Tests.{eqb-true, leb-true}
 use Rattle.math.specs.Float.{one, ofNat, plus, minus, over}
 use Rattle.math.specs.Whole.{floorOf}
-use Rattle.math.proofs.Tests.{same-test, both-true}
-use Rattle.math.proofs.Values.{nat-value, div-by, sub-at, of-le, le-at, lt-at}
+use Rattle.math.proofs.Tests.{same-test, beq-same}
+use Rattle.math.proofs.Values.{one-value, nat-value, div-by, sub-at, of-le, le-at, lt-at}
 use Rattle.math.proofs.Bounds.{AtMost, at-most, units-at-most}
 use Rattle.math.proofs.Whole.{floor-at}
 use Rattle.schedule.specs.Time.{timeAt}
+use Rattle.schedule.specs.Dialling.{digitAt, inTone}
 use Rattle.schedule.specs.Ansam.{reversal, signBy, signAt}
 use Rattle.schedule.specs.Ringback.{ringCycle, ringOn, ringOff, ringBy, ringTimeBy, ringAt, ringTime, ringTone}
 use Rattle.runs.specs.Runs.{counted, Before, OneSign, OneGate, OneKey, sameReversal, samePart, sameGate}
@@ -56,10 +57,6 @@ off-value : HasValue (plus ringOn ringOff) false C06 (2 ^ 1074)
 unfolding ofBits add
 off-value = (refl, refl)
 
-one-value : HasValue one false (2 ^ 1074) (2 ^ 1074)
-unfolding ofBits
-one-value = (refl, refl)
-
 -- ---- numbers
 div-grows : (a b c : ℕ) → 0 < c → a ≤ b → a / c ≤ b / c
 div-grows a b c C h = le-div-iff-mul-le C .1 (le-trans (le-of-eq (mul-comm (a / c) c)) (le-trans (mul-div-le a c) h))
@@ -74,12 +71,6 @@ leb-between : (a b c k : ℕ) → a ≤ b → b ≤ c → leb k a ≡ leb k c �
 leb-between a b c k h l e =
     same-test (leb k b) (leb k a) (λ t. subst T (sym e) (le→leb k c (le-trans (leb→le k b t) l)))
     (λ t. le→leb k b (le-trans (leb→le k a t) h))
-
-beq-eq : (a b : Bool) → Bool·beq a b ≡ true → a ≡ b
-beq-eq true true e = refl
-beq-eq true false e = absurd (true≢false (sym e))
-beq-eq false true e = absurd (true≢false (sym e))
-beq-eq false false e = refl
 
 ring-same : (a b : Bool) → ringBy a ≡ ringBy b → a ≡ b
 ring-same true true e = refl
@@ -108,8 +99,8 @@ tone-between : (u v w : Float) → Ordered u v w → samePart u w ≡ true → r
 unfolding samePart ringTone
 tone-between u v w O e =
     let P = pow-pos 1074 in
-    let h = both-true (Bool·beq (lt u ringOn) (lt w ringOn)) _ e in
-    let k = both-true (Bool·beq (le (plus ringOn ringOff) u) (le (plus ringOn ringOff) w)) (Bool·beq (lt u one) (lt w one)) (h .1) in
+    let (on, rest) = and-eq-true-iff (Bool·beq (lt u ringOn) (lt w ringOn)) _ .0 e in
+    let (off, end) = and-eq-true-iff (Bool·beq (le (plus ringOn ringOff) u) (le (plus ringOn ringOff) w)) _ .0 rest in
     let below : (x : Float) (n : ℕ) → HasValue x false n (2 ^ 1074) → lt u x ≡ lt w x → lt v x ≡ lt u x =
     λ x n X s.
     lt-at v x (O .b) n (2 ^ 1074) P (O .b-value) X
@@ -120,7 +111,7 @@ tone-between u v w O e =
     le-at x v n (O .b) (2 ^ 1074) P X (O .b-value)
     ∙ leb-between (O .a) (O .b) (O .c) n (O .a-b) (O .b-c) (sym (le-at x u n (O .a) (2 ^ 1074) P X (O .a-value)) ∙ s ∙ le-at x w n (O .c) (2 ^ 1074) P X (O .c-value))
     ∙ sym (le-at x u n (O .a) (2 ^ 1074) P X (O .a-value)) in
-    rw (below ringOn C04 on-value (beq-eq _ _ (h .0)), from (plus ringOn ringOff) C06 off-value (beq-eq _ _ (k .0)), below one (2 ^ 1074) one-value (beq-eq _ _ (k .1)))
+    rw (below ringOn C04 on-value (beq-same _ _ on), from (plus ringOn ringOff) C06 off-value (beq-same _ _ off), below one (2 ^ 1074) (one-value (2 ^ 1074)) (beq-same _ _ end))
 
 module _ (r : ℕ) (lo : 8000 ≤ r) (hi : r ≤ 192000) where
   pos : 0 < r
@@ -238,15 +229,15 @@ module _ (r : ℕ) (lo : 8000 ≤ r) (hi : r ≤ 192000) where
     gate-between : sameGate (timeAt r n) (timeAt r m) ≡ true → (ringAt (timeAt r k) ≡ ringAt (timeAt r n)) × (ringTone (ringTime (timeAt r k)) ≡ ringTone (ringTime (timeAt r n)))
     unfolding sameGate ringAt ringTime
     gate-between e =
-        let h = both-true (eqb (ringBy (le ringCycle (timeAt r n))) (ringBy (le ringCycle (timeAt r m)))) _ e in
+        let (rings, parts) = and-eq-true-iff (eqb (ringBy (le ringCycle (timeAt r n))) (ringBy (le ringCycle (timeAt r m)))) _ .0 e in
         let ends : leb C3 (time n N .at) ≡ leb C3 (time m M .at) =
-        sym (second-is n N) ∙ ring-same (le ringCycle (timeAt r n)) (le ringCycle (timeAt r m)) (eqb-true _ _ (h .0)) ∙ second-is m M in
+        sym (second-is n N) ∙ ring-same (le ringCycle (timeAt r n)) (le ringCycle (timeAt r m)) (eqb-true _ _ rings) ∙ second-is m M in
         let mid : leb C3 (time k K .at) ≡ leb C3 (time n N .at) = leb-between (time n N .at) (time k K .at) (time m M .at) C3 (time-grows n k h₀ K) (time-grows k m l M) ends in
         let here : le ringCycle (timeAt r k) ≡ le ringCycle (timeAt r n) = second-is k K ∙ mid ∙ sym (second-is n N) in (
           ap ringBy here,
           rw (here, second-is n N)
               (part-between (leb C3 (time n N .at)) refl mid (sym ends) (subst (λ (b : Bool). samePart (ringTimeBy (leb C3 (time n N .at)) (timeAt r n)) (ringTimeBy b (timeAt r m)) ≡ true) (second-is m M ∙ sym ends)
-              (subst (λ (b : Bool). samePart (ringTimeBy b (timeAt r n)) (ringTimeBy (le ringCycle (timeAt r m)) (timeAt r m)) ≡ true) (second-is n N) (h .1)))),
+              (subst (λ (b : Bool). samePart (ringTimeBy b (timeAt r n)) (ringTimeBy (le ringCycle (timeAt r m)) (timeAt r m)) ≡ true) (second-is n N) parts))),
         )
 
   -- ---- the runs
@@ -294,10 +285,10 @@ pub record Limits (r n most : ℕ) : Type 0 where
 
 pub limits : (r n most : ℕ) → (leb 8000 r && leb r 192000) && (leb n 0x4000_0000 && leb most 0x4000_0000) ≡ true → Limits r n most
 limits r n most e =
-    let h = both-true (leb 8000 r && leb r 192000) (leb n 0x4000_0000 && leb most 0x4000_0000) e in
-    let x = both-true (leb 8000 r) (leb r 192000) (h .0) in
-    let y = both-true (leb n 0x4000_0000) (leb most 0x4000_0000) (h .1) in
-    record { slow = leb-true 8000 r (x .0); fast = leb-true r 192000 (x .1); few = leb-true n 0x4000_0000 (y .0); short = leb-true most 0x4000_0000 (y .1) }
+    let (rates, counts) = and-eq-true-iff (leb 8000 r && leb r 192000) _ .0 e in
+    let (slow, fast) = and-eq-true-iff (leb 8000 r) _ .0 rates in
+    let (few, short) = and-eq-true-iff (leb n 0x4000_0000) _ .0 counts in
+    record { slow = leb-true _ _ slow; fast = leb-true _ _ fast; few = leb-true _ _ few; short = leb-true _ _ short }
 
 -- what is left of a stage
 module _ (n end most : ℕ) (h : 0 < most) where
@@ -321,19 +312,14 @@ module _ (r n i most c : ℕ) (L : Limits r n most) (I : i ≤ 75) (fits : c ≤
   near-by : (j : ℕ) → j < c → n + suc j ≤ 2 ^ 32
   near-by j l = omega (arith, L .few, L .short)
 
-  pub one-tone : ((j : ℕ) → j < c → (i * r < 5 * (n + suc j)) × (10 * (n + suc j) < (2 * i + 1) * r)) → OneKey r n i true most c
-  one-tone f = record {
-    fits = fits;
-    digit-stays = λ j l. rw (spot j l) (in-tone r (L .slow) (L .fast) (n + suc j) (near-by j l) i I (f j l .0) (f j l .1) .0);
-    tone-stays = λ j l. rw (spot j l) (in-tone r (L .slow) (L .fast) (n + suc j) (near-by j l) i I (f j l .0) (f j l .1) .1);
-  }
+  one-key : (on : Bool) → ((j : ℕ) → j < c → (digitAt (timeAt r (n + suc j)) ≡ i) × (inTone (timeAt r (n + suc j)) ≡ on)) → OneKey r n i on most c
+  one-key on f = record { fits = fits; digit-stays = λ j l. rw (spot j l) (f j l .0); tone-stays = λ j l. rw (spot j l) (f j l .1) }
 
-  pub one-gap : ((j : ℕ) → j < c → ((2 * i + 1) * r < 10 * (n + suc j)) × (5 * (n + suc j) < (i + 1) * r)) → OneKey r n i false most c
-  one-gap f = record {
-    fits = fits;
-    digit-stays = λ j l. rw (spot j l) (in-gap r (L .slow) (L .fast) (n + suc j) (near-by j l) i I (f j l .0) (f j l .1) .0);
-    tone-stays = λ j l. rw (spot j l) (in-gap r (L .slow) (L .fast) (n + suc j) (near-by j l) i I (f j l .0) (f j l .1) .1);
-  }
+  pub one-tone : ((j : ℕ) → j < c → (2 * (i * r) < 10 * (n + suc j)) × (10 * (n + suc j) < 2 * (i * r) + r)) → OneKey r n i true most c
+  one-tone f = one-key true (λ j l. let (after, before) = f j l in in-tone r (L .slow) (L .fast) (n + suc j) (near-by j l) i I (omega arith) (omega arith))
+
+  pub one-gap : ((j : ℕ) → j < c → (2 * (i * r) + r < 10 * (n + suc j)) × (10 * (n + suc j) < 2 * (i * r) + r + r)) → OneKey r n i false most c
+  one-gap f = one-key false (λ j l. let (after, before) = f j l in in-gap r (L .slow) (L .fast) (n + suc j) (near-by j l) i I (omega arith) (omega arith))
 
 pub no-key : (r n i : ℕ) (tone : Bool) (most : ℕ) → OneKey r n i tone most 0
 no-key r n i tone most = record { fits = omega arith; digit-stays = λ j l. absurd (no j l); tone-stays = λ j l. absurd (no j l) }

@@ -118,32 +118,16 @@ fn at_most(c: u64, most: usize) -> usize
     most
 }
 
-// How many samples after the count n the tone of digit i goes on for sure: those off its edges.
-fn tone_run(i: u64, n: u64, r: u64) -> u64
-    requires { ⌜ (i ≤ 75) × (n ≤ 0x4000_0000) × (r ≤ 192000) ⌝ }
-    ensures { λ c. ⌜ ((j : ℕ) → j < c → (i * r < 5 * (n + suc j)) × (10 * (n + suc j) < (2 * i + 1) * r)) ⌝ }
+// How many samples after the count n lie between two edges for sure, none of them on one. Edges are in tenths of a sample, so that a digit's
+// beginning, middle and end are whole numbers.
+fn run_between(from: u64, to: u64, n: u64) -> u64
+    requires { ⌜ n ≤ 0x4000_0000 ⌝ }
+    ensures { λ c. ⌜ ((j : ℕ) → j < c → (from < 10 * (n + suc j)) × (10 * (n + suc j) < to)) ⌝ }
 {
-    let x = i * r;
-    let middle = 2 * x + r;
-    if x < 5 * (n + 1) {
-        if 10 * (n + 1) < middle {
-            return (middle - 1) / 10 - n;
-        }
-    }
-    0
-}
-
-// The same of the gap after it.
-fn gap_run(i: u64, n: u64, r: u64) -> u64
-    requires { ⌜ (i ≤ 75) × (n ≤ 0x4000_0000) × (r ≤ 192000) ⌝ }
-    ensures { λ c. ⌜ ((j : ℕ) → j < c → ((2 * i + 1) * r < 10 * (n + suc j)) × (5 * (n + suc j) < (i + 1) * r)) ⌝ }
-{
-    let x = i * r;
-    let middle = 2 * x + r;
-    let next = x + r;
-    if middle < 10 * (n + 1) {
-        if 5 * (n + 1) < next {
-            return (next - 1) / 5 - n;
+    let next = 10 * (n + 1);
+    if from < next {
+        if next < to {
+            return (to - 1) / 10 - n;
         }
     }
     0
@@ -157,10 +141,14 @@ pub fn dialling_run(digit: u64, tone: bool, n: u32, rate: u32, most: usize) -> u
         return 0;
     }
     if runs_known(n, rate, most) {
+        let r = rate as u64;
+        let start = 2 * (digit * r);
+        let middle = start + r;
         if tone {
-            return at_most(tone_run(digit, n as u64, rate as u64), most);
+            return at_most(run_between(start, middle, n as u64), most);
         }
-        return at_most(gap_run(digit, n as u64, rate as u64), most);
+        let end = middle + r;
+        return at_most(run_between(middle, end, n as u64), most);
     }
     0
 }

@@ -1,3 +1,4 @@
+-- Laws on the clocks and on the stages' lengths, and 01's cases.
 pub mod Constants
 pub mod Count
 pub mod Samples

@@ -13,7 +13,7 @@ use lib.Ieee.Back.{round-whole}
 use Rattle.math.specs.Float.{one, ofNat, times}
 use Rattle.math.specs.Whole.{roundOf}
 use Rattle.math.proofs.Error.{Rounded, round-at}
-use Rattle.math.proofs.Values.{nat-value, mul-by}
+use Rattle.math.proofs.Values.{one-value, nat-value, mul-by}
 use Rattle.math.proofs.Whole.{half-at}
 use Rattle.schedule.specs.Time.{samplesIn}
 use Rattle.schedule.specs.Length.{clickTime, ringbackTime, ansamTime, cjSilence}
@@ -29,10 +29,6 @@ whole-seconds s k r v K hi =
     (subst (λ (z : Float). HasValue z false (k * r) 1) (sym (mul-by binary64 s (ofNat r) k 1 r 1 (pow-pos 0) (pow-pos 0) v (rate-value r hi))) (round-whole binary64 false (k * r) (le-trans (mul-le-mul K hi) (lit≤ tt))))
     (lt-of-le-of-lt (mul-le-mul K hi) (lit< tt))
     ∙ omega arith
-
-one-value : HasValue one false 1 1
-unfolding ofBits
-one-value = (refl, refl)
 
 -- ---- k fortieths of a second, up to the constant's own rounding
 small : (A X : ℕ) → 2 * (A * 2 ^ 57) ≤ 2 * (X * 2 ^ 52) + 2 ^ 57 * 2 ^ 13 → X < 2 ^ 71 → A < 2 ^ 67
@@ -73,7 +69,7 @@ module _ (r : ℕ) (lo : 8000 ≤ r) (hi : r ≤ 192000) where
   silence-near = fortieths cjSilence 0x26_6666_6666_6666 3 r silence-value (lit≤ tt) (lit≤ tt) (lit≤ tt) (lit≤ tt) lo hi
 
   pub dial-tone-samples : samplesIn one r ≡ r
-  dial-tone-samples = whole-seconds one 1 r one-value (lit≤ tt) hi ∙ one-mul r
+  dial-tone-samples = whole-seconds one 1 r (one-value 1) (lit≤ tt) hi ∙ one-mul r
 
   pub ringback-samples : samplesIn ringbackTime r ≡ 4 * r
   ringback-samples = whole-seconds ringbackTime 4 r (nat-value 4 (lit≤ tt)) (lit≤ tt) hi

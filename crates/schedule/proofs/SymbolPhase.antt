@@ -8,21 +8,17 @@ use lib.Dec.{T, lit<, lit≤}
 use lib.Pow.{pow-pos}
 use lib.Ieee.{Float, binary64, round, add, le, lt, ofBits, fits}
 use lib.Ieee.Fits.{add-fits, sub-fits}
-use lib.Ieee.Exact.{HasValue}
 use Rattle.math.specs.Float as float
 use Rattle.math.specs.Float.{one, plus, minus}
+use Rattle.math.proofs.Values.{one-value}
 use Rattle.math.proofs.Error.{rescale}
 use Rattle.math.proofs.Pattern.{magnitude}
 use Rattle.math.proofs.Wrapping.{within, wrapped, negative-zero, Phase, in-range, wrap-stays}
 use Rattle.schedule.specs.Symbols.{symbolStep, symbolEnds, nextPhase, nextPhaseBy, inSymbol}
 use Rattle.schedule.proofs.Symbols.{step-value}
 
-one-value : HasValue one false (2 ^ 1074) (2 ^ 1074)
-unfolding ofBits
-one-value = (refl, refl)
-
 phase-of : (p : Float) → T (fits binary64 p) → T (inSymbol p) → Phase (2 ^ 1074) p
-phase-of p h k = elim (in-range one (2 ^ 1074) one-value p h k) [
+phase-of p h k = elim (in-range one (2 ^ 1074) (one-value (2 ^ 1074)) p h k) [
   | inl z ↦ inl z
   | inr w ↦ inr (record { at = magnitude (w .0 .e) (w .0 .t); value = w .1; most = le-of-lt (w .2) })
 ]
@@ -60,5 +56,5 @@ next-is s p = go (le one (plus p s)) (plus p s)
 pub phase-stays : (r : ℕ) → 8000 ≤ r → r ≤ 192000 → (p : Float) → T (fits binary64 p) → T (inSymbol p) → T (inSymbol (nextPhase (symbolStep r) p))
 phase-stays r lo hi p h k =
     subst (λ (x : Float). T (inSymbol x)) (next-is (symbolStep r) p)
-    (wrap-stays one (2 ^ 1074) one-value 17 1070 1 1070 (lit< tt) (lit< tt) (lit< tt) (lit< tt) (lit≤ tt) (lit< tt)
+    (wrap-stays one (2 ^ 1074) (one-value (2 ^ 1074)) 17 1070 1 1070 (lit< tt) (lit< tt) (lit< tt) (lit< tt) (lit≤ tt) (lit< tt)
     p (symbolStep r) (2 ^ 1074) (2 ^ 1070) (phase-of p h k) (step-of r lo hi) (lit≤ tt) negative-zeros)

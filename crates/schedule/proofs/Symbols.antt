@@ -7,18 +7,14 @@ use native.Mathlib.Nat.{le-of-eq, le-of-lt, lt-of-not-le, le-of-suc-le-suc, mul-
 use native.Mathlib.Omega.{arith}
 use lib.Dec.{T, leb, leb→le, nleb→lt, lit<, lit≤}
 use lib.Pow.{pow-pos}
-use lib.Ieee.{Float, binary64, le, ofBits}
+use lib.Ieee.{Float, binary64, le}
 use lib.Ieee.Exact.{HasValue}
 use Rattle.math.specs.Float.{one, ofNat, plus}
 use Rattle.math.proofs.Error.{Rounded, round-at}
-use Rattle.math.proofs.Values.{zero-value, nat-value, div-by, add-at, sub-at, le-at}
+use Rattle.math.proofs.Values.{zero-value, one-value, nat-value, div-by, add-at, sub-at, le-at}
 use Rattle.schedule.specs.Symbols.{symbolStep, symbolEnds, nextPhase, nextPhaseBy, phaseAfter, doneBy, doneAfter}
 use Rattle.schedule.proofs.Samples.{rate-value}
 use Rattle.math.proofs.Units.{Near, near}
-
-one-value : HasValue one false (2 ^ 62) (2 ^ 62)
-unfolding ofBits
-one-value = (refl, refl)
 
 -- ---- after n samples with the step S * 2 ^ -62: the phase, and how far it is, with the bits done, from n steps
 record After (s : Float) (S n : ℕ) : Type 0 where
@@ -42,7 +38,7 @@ module _ (s : Float) (S : ℕ) (step : HasValue s false S (2 ^ 62)) (small : S �
   phase-step n b e = ap (λ (t : Bool). nextPhaseBy t (plus (phaseAfter s n) s)) e
 
   then : (n : ℕ) → After s S n → After s S (suc n)
-  then n a = go (leb (2 ^ 62) (y .at)) (le-at one x (2 ^ 62) (y .at) (2 ^ 62) (pow-pos 62) one-value (y .value)) (leb→le (2 ^ 62) (y .at)) (nleb→lt (2 ^ 62) (y .at))
+  then n a = go (leb (2 ^ 62) (y .at)) (le-at one x (2 ^ 62) (y .at) (2 ^ 62) (pow-pos 62) (one-value (2 ^ 62)) (y .value)) (leb→le (2 ^ 62) (y .at)) (nleb→lt (2 ^ 62) (y .at))
     where
       x : Float
       x = plus (phaseAfter s n) s
@@ -54,7 +50,7 @@ module _ (s : Float) (S : ℕ) (step : HasValue s false S (2 ^ 62)) (small : S �
       go true e g l =
           let h = g tt in
           let z : Near 62 10 (y .at - 2 ^ 62) (phaseAfter s (suc n)) =
-          subst (Near 62 10 (y .at - 2 ^ 62)) (sym (phase-step n true e ∙ sub-at binary64 x one (y .at) (2 ^ 62) (2 ^ 62) (pow-pos 62) (y .value) one-value h))
+          subst (Near 62 10 (y .at - 2 ^ 62)) (sym (phase-step n true e ∙ sub-at binary64 x one (y .at) (2 ^ 62) (2 ^ 62) (pow-pos 62) (y .value) (one-value (2 ^ 62)) h))
           (near 10 1012 10 (y .at - 2 ^ 62) refl (lit≤ tt) (omega (arith, y .over))) in
           record { at = z .at; value = z .value; below = omega (arith, y .over); over = rw (done-step n true e) (omega (arith, y .over)); under = rw (done-step n true e) (omega (arith, y .under)) }
       go false e g l =

@@ -8,7 +8,7 @@ ghost use lib.ListN.{length};
 ghost use Rattle.schedule.specs.Length.{total};
 ghost use Rattle.schedule.specs.Bounds.{TotalBounds};
 ghost use Rattle.passage.specs.Overture.{HasLength};
-ghost use Rattle.session.specs.Session.{stateNumber, digitsHeld, idle, answering, dialling, showing, filledIn, filled, writtenIn, written, zeros, ringOf, ringNumber};
+ghost use Rattle.session.specs.Session.{stateNumber, digitsHeld, quietIn, idle, answering, dialling, showing, filledIn, filled, writtenIn, written, zeros, ringOf, ringNumber};
 ghost use Rattle.session.specs.declared.SessionState.the-variants.{Dialling};
 
 pub enum SessionState {
@@ -88,6 +88,23 @@ fn ring(stage: StageState) -> u8
     }
 }
 
+// A session with nothing dialled: no digits, and no samples to come.
+fn quiet_in(state: SessionState) -> Session
+    ensures { λ r. ⌜ r ≡ quietIn state ⌝ }
+{
+    let digits = Digits {
+        keys: [0u8; 76],
+        len: 0,
+    };
+    Session {
+        state,
+        digits,
+        m: 0,
+        shown: 0,
+        stage: StageState::Connected,
+    }
+}
+
 impl Session {
     pub fn new() -> Session
         ensures { λ r. ⌜ r ≡ idle ⌝ }
@@ -118,33 +135,13 @@ impl Session {
     pub fn answer() -> Session
         ensures { λ r. ⌜ r ≡ answering ⌝ }
     {
-        let digits = Digits {
-            keys: [0u8; 76],
-            len: 0,
-        };
-        Session {
-            state: SessionState::Answering,
-            digits,
-            m: 0,
-            shown: 0,
-            stage: StageState::Connected,
-        }
+        quiet_in(SessionState::Answering)
     }
 
     pub fn hangup() -> Session
         ensures { λ r. ⌜ r ≡ idle ⌝ }
     {
-        let digits = Digits {
-            keys: [0u8; 76],
-            len: 0,
-        };
-        Session {
-            state: SessionState::Idle,
-            digits,
-            m: 0,
-            shown: 0,
-            stage: StageState::Connected,
-        }
+        quiet_in(SessionState::Idle)
     }
 
     // The session after a fill in Dialling, whose shown stage and next state are given.

@@ -1,47 +1,41 @@
--- What soundness says of a set's numbers. Assumes nothing.
+-- What soundness says of a set's numbers: the test, taken apart. Assumes nothing.
 use Prim.Native.Nat.{_≤_}
-use mathlib.Core.Path.{_≡_, refl, sym}
-use mathlib.Core.Bool.{Bool, true, false, _&&_, true≢false}
+use mathlib.Core.Path.{_≡_}
+use mathlib.Core.Bool.{true, and-eq-true-iff}
 use lib.Dec.{leb}
-use lib.ListN.{length}
 use borrow.Author.Tests.{leb-true}
 use Rattle.at.specs.Processor as processor
-use Rattle.sound.specs.Sound.{soundState, rateOk, digitsOk, stateOk}
+use Rattle.sound.specs.Sound.{soundState}
+use Rattle.sound.proofs.Limits.{rate-low, rate-high}
+use Rattle.sound.proofs.Next.{sound-apart}
 use Rattle.session.specs.Session.{digitsHeld}
 use Rattle.set.specs.declared.Set.{Set}
 use Rattle.set.specs.Sound.{sound}
 
-left : (a b : Bool) → a && b ≡ true → a ≡ true
-left true b e = refl
-left false b e = e
-
-pub right : (a b : Bool) → a && b ≡ true → b ≡ true
-right true b e = e
-right false b e = absurd (true≢false (sym e))
-
 module _ (s : Set) (h : sound s ≡ true) where
-  pub sound-digits : s .session .digits .len ≤ 76
+  -- the test's parts, in its order
+  record Parts : Type 0 where
+    digits : leb (s .session .digits .len) 76 ≡ true
+    state : soundState (s .session .stage) (digitsHeld (s .session)) (s .rate) ≡ true
+    processor : processor.sound (s .processor) ≡ true
+    count : leb (s .session .m) 5000000 ≡ true
+
+  parts : Parts
   unfolding sound
-  sound-digits = leb-true _ _ (left (leb (s .session .digits .len) 76) _ h)
+  parts =
+      let (digits, rest) = and-eq-true-iff (leb (s .session .digits .len) 76) _ .0 h in
+      let (state, rest₂) = and-eq-true-iff (soundState (s .session .stage) (digitsHeld (s .session)) (s .rate)) _ .0 rest in
+      let (good, rest₃) = and-eq-true-iff (processor.sound (s .processor)) _ .0 rest₂ in
+      record { digits = digits; state = state; processor = good; count = and-eq-true-iff (leb (s .session .m) 5000000) _ .0 rest₃ .0 }
+
+  pub sound-digits : s .session .digits .len ≤ 76
+  sound-digits = leb-true _ _ (parts .digits)
 
   pub sound-processor : processor.sound (s .processor) ≡ true
-  unfolding sound
-  sound-processor =
-      left (processor.sound (s .processor)) _
-      (right (soundState (s .session .stage) (digitsHeld (s .session)) (s .rate)) _ (right (leb (s .session .digits .len) 76) _ h))
+  sound-processor = parts .processor
 
   pub sound-count : s .session .m ≤ 5000000
-  unfolding sound
-  sound-count =
-      leb-true _ _
-      (left (leb (s .session .m) 5000000) _
-      (right (processor.sound (s .processor)) _
-      (right (soundState (s .session .stage) (digitsHeld (s .session)) (s .rate)) _ (right (leb (s .session .digits .len) 76) _ h))))
+  sound-count = leb-true _ _ (parts .count)
 
   pub sound-rate : (8000 ≤ s .rate) × (s .rate ≤ 192000)
-  unfolding sound soundState rateOk
-  sound-rate =
-      let ok : rateOk (s .rate) ≡ true =
-      left (rateOk (s .rate)) (digitsOk (digitsHeld (s .session)) && stateOk (s .session .stage) (length (digitsHeld (s .session))) (s .rate))
-      (left (soundState (s .session .stage) (digitsHeld (s .session)) (s .rate)) _ (right (leb (s .session .digits .len) 76) _ h)) in
-      (leb-true _ _ (left (leb 8000 (s .rate)) _ ok), leb-true _ _ (right (leb 8000 (s .rate)) _ ok))
+  sound-rate = let p = sound-apart _ _ _ (parts .state) in (rate-low (s .rate) (p .rate), rate-high (s .rate) (p .rate))

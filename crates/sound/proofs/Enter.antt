@@ -6,11 +6,10 @@ use Prim.Native.Nat.{ℕ, zero, suc, _≤_, _<_, zero-le}
 use native.Mathlib.Nat.{le-trans, zero-lt-suc}
 use lib.Dec.{T, lt→ltb, lit≤}
 use lib.ListN.{length, getD}
-use lib.Ieee.{ofBits}
 use lib.Ieee.Bits.{is-true}
 use borrow.Author.Tests.{lt-ltb}
 use Rattle.math.specs.Float.{ofNat, one}
-use Rattle.math.proofs.Values.{nat-value}
+use Rattle.math.proofs.Values.{one-value, nat-value}
 use Rattle.nco.specs.Nco.{freshNco}
 use Rattle.frame.specs.Frame.{ciPayload, cmJmPayload, cjPayload, trainingPayload}
 use Rattle.keys.specs.declared.Tones.{Tones}
@@ -36,8 +35,7 @@ whole : (k : ℕ) → k ≤ 6000 → Hertz (ofNat k)
 whole k h = record { count = k; value = nat-value k (le-trans h (lit≤ tt)); most = h }
 
 one-hertz : Hertz one
-unfolding ofBits
-one-hertz = record { count = 1; value = (refl, refl); most = lit≤ tt }
+one-hertz = record { count = 1; value = one-value 1; most = lit≤ tt }
 
 abbrev KeyHertz : KeyTones → Type 0
 KeyHertz t = Hertz (t .low) × Hertz (t .high)

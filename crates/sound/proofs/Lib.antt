@@ -1,3 +1,4 @@
+-- That a sound state begins every stage and is followed by another.
 pub mod Limits
 pub mod Parts
 pub mod Dialling

@@ -281,7 +281,8 @@ fn training(fsk: FskChannel) -> Generated
     }
 }
 
-// The current stage's next sample.
+// One sample of whichever stage. `overture` plays whole runs instead, and is proved against the same definition; `generate` holds that
+// definition, rule by rule, against plain code.
 pub fn generate(state: StageState, digits: &[u8], rate: u32) -> Generated
     ensures { λ r. ⌜ r ≡ generateOf state (now (digits .entry)) rate ⌝ }
 {

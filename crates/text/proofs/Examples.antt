@@ -17,12 +17,12 @@ byte-is : lastDigits 16 2 171 ≡ ascii "AB"
 unfolding lastDigits glyphOf glyphIf
 byte-is = refl
 
--- three digits at 8,000 samples a second, a nearest that is above, and no rate
+-- three digits at 8,000 samples a second, one whose nearest is above it, and no rate
 seconds-are : secondsOf 4801 8000 ≡ ascii "0.6001"
 unfolding decimalOf decimalFrom decimalIf lastDigits glyphOf glyphIf partsOf secondsOf secondsIf
 seconds-are = refl
 
-seconds-round : secondsOf 192001 192000 ≡ ascii "1.0000"
+seconds-round : secondsOf 12801 48000 ≡ ascii "0.2667"
 unfolding decimalOf decimalFrom decimalIf lastDigits glyphOf glyphIf partsOf secondsOf secondsIf
 seconds-round = refl
 

@@ -1,6 +1,5 @@
 -- `sample_twice` meets its contract, by what `sin_twice` ensures. Assumes nothing.
 use borrow.Author.Needs.{needs}
-use borrow.Author.Needs.{needs}
 use Rattle.fsk.proofs.sample_twice.Statement.{statement}
 use Rattle.fsk.proofs.sample_twice.Tie as tie
 

@@ -1,6 +1,5 @@
 -- `FskChannel::next_sample` meets its contract, by what `sin` and `moved` ensure. Assumes nothing.
 use borrow.Author.Needs.{needs}
-use borrow.Author.Needs.{needs}
 use Rattle.fsk.proofs.FskChannel.next_sample.Statement.{statement}
 use Rattle.fsk.proofs.FskChannel.next_sample.Tie as tie
 
