@@ -5,9 +5,17 @@ use console::lines::Parser;
 use console::lines::Pushed;
 use set::Set;
 use shown::Shown;
+ghost use mathlib.Core.Path.{_≡_};
+ghost use mathlib.Core.Bool.{true, false};
+ghost use lib.Dec.{leb};
+ghost use lib.ListN.{length};
+ghost use Rattle.text.specs.Text.{pageOf, addOf};
+ghost use Rattle.report.specs.Report.{reportLine};
+ghost use Rattle.set.specs.Set.{typed, fill};
+ghost use Rattle.panel.specs.Wall.{typedShown, filledShown, setAfter, lineAfter, roomFor};
 
-pub mod page;
-pub mod shown;
+mod page;
+mod shown;
 
 // What runs between two bytes of the input.
 struct Panel {
@@ -113,7 +121,12 @@ fn flushed(p: Panel, out: &[u8]) -> Panel {
     Panel { at: front, ..p }
 }
 
-fn perform(p: Panel, call: Call, samples: &mut [f32], out: &mut [u8]) -> Panel {
+// A call on the set. Where there is room for what it is lent, the set is the call's, and without
+// `tap`'s second line what is added to the page is 01's line.
+fn perform(p: Panel, call: Call, samples: &mut [f32], out: &mut [u8]) -> Panel
+    ensures { λ r. ⌜ (roomFor (length (now (samples .entry))) call ≡ true → r .set ≡ setAfter (p .set) call) ⌝ }
+    ensures { λ r. ⌜ (roomFor (length (now (samples .entry))) call ≡ true → p .bits ≡ false → pageOf (now (out .exit)) (r .at) ≡ addOf (pageOf (now (out .entry)) (p .at)) (lineAfter (p .set) call)) ⌝ }
+{
     let set = p.set;
     match call {
         Call::Rate(rate) => answered(p, shown::made(rate), b"", out),
@@ -130,9 +143,13 @@ fn perform(p: Panel, call: Call, samples: &mut [f32], out: &mut [u8]) -> Panel {
 }
 
 // The answer of any call but a fill.
-fn answered(p: Panel, s: Shown, sent: &[u8], out: &mut [u8]) -> Panel {
+fn answered(p: Panel, s: Shown, sent: &[u8], out: &mut [u8]) -> Panel
+    ensures { λ r. ⌜ r .set ≡ s .set ⌝ }
+    ensures { λ r. ⌜ (p .bits ≡ false → pageOf (now (out .exit)) (r .at) ≡ addOf (pageOf (now (out .entry)) (p .at)) (reportLine (s .report))) ⌝ }
+{
     let set = s.set;
-    let first = page::put_answer(out, p.at, s);
+    let line = s.report;
+    let first = report::put_report(out, p.at, line);
     if p.bits {
         let second = page::put_bits(out, first, set, sent);
         return Panel {
@@ -149,7 +166,10 @@ fn answered(p: Panel, s: Shown, sent: &[u8], out: &mut [u8]) -> Panel {
 }
 
 // No line names an outbox of more than 16 bytes.
-fn typed(p: Panel, byte: u8, carrier: bool, n: usize, out: &mut [u8]) -> Panel {
+fn typed(p: Panel, byte: u8, carrier: bool, n: usize, out: &mut [u8]) -> Panel
+    ensures { λ r. ⌜ (leb n 16 ≡ true → r .set ≡ typed (p .set) byte carrier n .set) ⌝ }
+    ensures { λ r. ⌜ (leb n 16 ≡ true → p .bits ≡ false → pageOf (now (out .exit)) (r .at) ≡ addOf (pageOf (now (out .entry)) (p .at)) (reportLine (typedShown (typed (p .set) byte carrier n) .report))) ⌝ }
+{
     let mut outbox = [0u8; 16];
     let none: usize = 0;
     if n > 16 {
@@ -159,7 +179,10 @@ fn typed(p: Panel, byte: u8, carrier: bool, n: usize, out: &mut [u8]) -> Panel {
 }
 
 // No call sends more than the outbox holds.
-fn feed(p: Panel, byte: u8, carrier: bool, outbox: &mut [u8], out: &mut [u8]) -> Panel {
+fn feed(p: Panel, byte: u8, carrier: bool, outbox: &mut [u8], out: &mut [u8]) -> Panel
+    ensures { λ r. ⌜ r .set ≡ typed (p .set) byte carrier (length (now (outbox .entry))) .set ⌝ }
+    ensures { λ r. ⌜ (p .bits ≡ false → pageOf (now (out .exit)) (r .at) ≡ addOf (pageOf (now (out .entry)) (p .at)) (reportLine (typedShown (typed (p .set) byte carrier (length (now (outbox .entry)))) .report))) ⌝ }
+{
     let none: usize = 0;
     let s = shown::typed(p.set, byte, carrier, outbox);
     let sent = s.sent;
@@ -170,7 +193,10 @@ fn feed(p: Panel, byte: u8, carrier: bool, outbox: &mut [u8], out: &mut [u8]) ->
 }
 
 // No line asks for more samples than there is room for.
-fn filled(p: Panel, n: usize, samples: &mut [f32], out: &mut [u8]) -> Panel {
+fn filled(p: Panel, n: usize, samples: &mut [f32], out: &mut [u8]) -> Panel
+    ensures { λ r. ⌜ (leb n (length (now (samples .entry))) ≡ true → r .set ≡ fill (p .set) n .set) ⌝ }
+    ensures { λ r. ⌜ (leb n (length (now (samples .entry))) ≡ true → p .bits ≡ false → pageOf (now (out .exit)) (r .at) ≡ addOf (pageOf (now (out .entry)) (p .at)) (reportLine (filledShown (fill (p .set) n) .report))) ⌝ }
+{
     let none: usize = 0;
     if n > samples.len() {
         return p;
@@ -178,11 +204,15 @@ fn filled(p: Panel, n: usize, samples: &mut [f32], out: &mut [u8]) -> Panel {
     fill(p, &mut samples[none..n], out)
 }
 
-fn fill(p: Panel, samples: &mut [f32], out: &mut [u8]) -> Panel {
+fn fill(p: Panel, samples: &mut [f32], out: &mut [u8]) -> Panel
+    ensures { λ r. ⌜ r .set ≡ fill (p .set) (length (now (samples .entry))) .set ⌝ }
+    ensures { λ r. ⌜ (p .bits ≡ false → pageOf (now (out .exit)) (r .at) ≡ addOf (pageOf (now (out .entry)) (p .at)) (reportLine (filledShown (fill (p .set) (length (now (samples .entry)))) .report))) ⌝ }
+{
     blank(samples);
     let s = shown::filled(p.set, samples);
     let set = s.set;
-    let first = page::put_answer(out, p.at, s);
+    let line = s.report;
+    let first = report::put_report(out, p.at, line);
     if p.bits {
         let second = page::put_fill(out, first, set, samples);
         return Panel {

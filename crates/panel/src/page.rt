@@ -1,50 +1,19 @@
-// The lines of an answer, written on a page that is a buffer.
-use crate::shown::Shown;
+// `tap`'s second line, written on a page that is a buffer.
 use set::Set;
 
-// 01's line: refusal, mode, state, stage, m and two codes.
-pub fn put_answer(out: &mut [u8], at: usize, s: Shown) -> usize {
-    let set = s.set;
-    let mut k = put_field(out, at, s.refusal as u64);
-    k = put_set(out, k, set);
-    k = put_field(out, k, s.first as u64);
-    k = text::put_decimal(out, k, s.second as u64);
-    text::put_byte(out, k, b'\n')
-}
-
-// `tap`'s second line.
+// The ring and the bytes sent.
 pub fn put_bits(out: &mut [u8], at: usize, set: Set, sent: &[u8]) -> usize {
     let mut k = put_ring(out, at, set);
     k = put_sent(out, k, sent);
     text::put_byte(out, k, b'\n')
 }
 
-// The same after a fill.
+// After a fill, the samples too.
 pub fn put_fill(out: &mut [u8], at: usize, set: Set, samples: &[f32]) -> usize {
     let mut k = put_ring(out, at, set);
     k = put_sent(out, k, b"");
     k = put_samples(out, k, samples);
     text::put_byte(out, k, b'\n')
-}
-
-fn put_set(out: &mut [u8], at: usize, set: Set) -> usize {
-    let state = set.state();
-    let mut k = put_mode(out, at, set);
-    k = put_field(out, k, state.number() as u64);
-    k = put_field(out, k, set.stage() as u64);
-    put_field(out, k, set.m() as u64)
-}
-
-fn put_field(out: &mut [u8], at: usize, number: u64) -> usize {
-    let k = text::put_decimal(out, at, number);
-    text::put_byte(out, k, b',')
-}
-
-fn put_mode(out: &mut [u8], at: usize, set: Set) -> usize {
-    if set.in_command_mode() {
-        return text::put(out, at, b"C,");
-    }
-    text::put(out, at, b"D,")
 }
 
 fn put_ring(out: &mut [u8], at: usize, set: Set) -> usize {
