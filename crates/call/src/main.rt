@@ -33,7 +33,7 @@ fn with_digits() {
 fn with_rate(digits: &[u8]) {
     if words::all_dialled(digits) {
         let rate = words::rate();
-        if sound::rate_ok(rate) {
+        if soundness::rate_ok(rate) {
             with_file(digits, rate);
             return;
         }

@@ -12,8 +12,8 @@ use lib.ListN.{length}
 use Rattle.schedule.proofs.Total.{total-bounds}
 use Rattle.passage.proofs.Way.{overture-length}
 use Rattle.passage.proofs.Connected.{samples-past}
-use Rattle.sound.specs.Sound.{rateOk}
-use Rattle.sound.proofs.Limits.{rate-low, rate-high, digits-few}
+use Rattle.soundness.specs.Sound.{rateOk}
+use Rattle.soundness.proofs.Limits.{rate-low, rate-high, digits-few}
 use Rattle.at.specs.At.{lineFull}
 use Rattle.session.specs.declared.SessionState.{SessionState}
 use Rattle.session.specs.declared.SessionState.the-variants.{Idle, Dialling, Answering, Connected}

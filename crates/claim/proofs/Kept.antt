@@ -20,10 +20,10 @@ use Rattle.passage.specs.Overture.{HasLength}
 use Rattle.passage.proofs.Way.{overture-length, total-room}
 use Rattle.passage.proofs.Connected.{connected-exactly}
 use Rattle.passage.proofs.Stages.{never-falls}
-use Rattle.sound.specs.Sound.{rateOk, digitsOk, stateOk, soundState}
-use Rattle.sound.proofs.Limits.{rate-low, rate-high, digits-few}
-use Rattle.sound.proofs.Held.{enter-held}
-use Rattle.sound.proofs.Enter.{enter-sound}
+use Rattle.soundness.specs.Sound.{rateOk, digitsOk, stateOk, soundState}
+use Rattle.soundness.proofs.Limits.{rate-low, rate-high, digits-few}
+use Rattle.soundness.proofs.Held.{enter-held}
+use Rattle.soundness.proofs.Enter.{enter-sound}
 use Rattle.at.specs.declared.AtProcessor.{AtProcessor}
 use Rattle.at.specs.declared.Control.{Control}
 use Rattle.at.specs.declared.Control.the-variants.{Nothing, Dial, Answer, Hangup}
@@ -34,7 +34,7 @@ use Rattle.session.specs.declared.SessionState.{SessionState}
 use Rattle.session.specs.declared.SessionState.the-variants.{Idle, Dialling, Answering, Connected}
 use Rattle.set.specs.Sound.{sound}
 use Rattle.claim.proofs.Sounding.{after-sound}
-use Rattle.set.specs.Book.{typing, time, forcing, filling, Book, blank, overture, lengthOf, stageOfSample, typingRefusal, fillRefusal, fedBy, lapsedBy, obeyed, shownBy, lit, filledIn, unlessDeclined, entered}
+use Rattle.set.specs.Book.{typing, time, forcing, filling, Book, blank, overture, lengthOf, stageOfSample, typingRefusal, fillRefusal, fedBy, lapsedBy, applied, shownBy, lit, filledIn, unlessDeclined, entered}
 use Rattle.claim.specs.Claim.{fill, other, turnOf, turnUnlessDeclined, turn, Since, notCalled, noted, AllAtMost, NeverBack}
 use Rattle.set.proofs.Reached.{stageIn, reached, few-typed}
 
@@ -260,19 +260,19 @@ module _ (r : ℕ) where
             course = other-kept (k .state) (k .digits) (k .count) (k .shown) h k left (kept .course);
           }
 
-      obeyed-kept : (c : Control) (line : List ℕ) (p : AtProcessor) → length line ≤ 76 → processor.sound p ≡ true
-          → Kept (obeyed c line p k) (noted (turnOf c) r k [] (obeyed c line p k .state) (obeyed c line p k .shown) h)
+      applied-kept : (c : Control) (line : List ℕ) (p : AtProcessor) → length line ≤ 76 → processor.sound p ≡ true
+          → Kept (applied c line p k) (noted (turnOf c) r k [] (applied c line p k .state) (applied c line p k .shown) h)
       unfolding digitsOk allKeys samples
-      obeyed-kept Nothing line p short good =
+      applied-kept Nothing line p short good =
           record {
             processor = good;
             digits = kept .digits;
             shown = kept .shown;
             course = other-kept (k .state) (k .digits) (k .count) (k .shown) h k [] (kept .course);
           }
-      obeyed-kept Answer line p short good = record { processor = good; digits = refl; shown = omega arith; course = (refl, refl) }
-      obeyed-kept Hangup line p short good = record { processor = good; digits = refl; shown = omega arith; course = (refl, refl) }
-      obeyed-kept Dial line p short good =
+      applied-kept Answer line p short good = record { processor = good; digits = refl; shown = omega arith; course = (refl, refl) }
+      applied-kept Hangup line p short good = record { processor = good; digits = refl; shown = omega arith; course = (refl, refl) }
+      applied-kept Dial line p short good =
           record {
             processor = good;
             digits = dialled-ok line short;
@@ -290,11 +290,11 @@ module _ (r : ℕ) where
           }
 
       typing-by : (room full : Bool) (c : Control) (line : List ℕ) (p : AtProcessor) → length line ≤ 76 → processor.sound p ≡ true
-          → let next = unlessDeclined (typingRefusal room full) k (obeyed c line p k) in
+          → let next = unlessDeclined (typingRefusal room full) k (applied c line p k) in
           Kept next (noted (turnUnlessDeclined (typingRefusal room full) (turnOf c)) r k [] (next .state) (next .shown) h)
       typing-by false full c line p short good = declined-kept []
       typing-by true true c line p short good = declined-kept []
-      typing-by true false c line p short good = obeyed-kept c line p short good
+      typing-by true false c line p short good = applied-kept c line p short good
 
       pub typing-kept : (byte : ℕ) (carrier : Bool) (room : ℕ)
           → let next = entered r k (typing byte carrier room) in
@@ -311,13 +311,13 @@ module _ (r : ℕ) where
           Kept next (noted (turn k (time ns carrier)) r k [] (next .state) (next .shown) h)
       unfolding entered
       time-kept ns carrier =
-          obeyed-kept (lapsedBy k ns carrier .control) [] (lapsedBy k ns carrier .processor) zero-le (sound-lapse (k .processor) ns _ (kept .processor))
+          applied-kept (lapsedBy k ns carrier .control) [] (lapsedBy k ns carrier .processor) zero-le (sound-lapse (k .processor) ns _ (kept .processor))
 
       pub forcing-kept :
           let next = entered r k forcing in
           Kept next (noted (turn k forcing) r k [] (next .state) (next .shown) h)
       unfolding entered
-      forcing-kept = obeyed-kept Nothing [] (forcedData (k .processor)) zero-le (sound-forced (k .processor) (kept .processor))
+      forcing-kept = applied-kept Nothing [] (forcedData (k .processor)) zero-le (sound-forced (k .processor) (kept .processor))
 
     filling-by : (b : ℕ) (left : List Float) (h : Since) (long : Bool) → ltb 65536 b ≡ long
         → (p : AtProcessor) (state : SessionState) (digits : List ℕ) (count shown : ℕ)

@@ -24,7 +24,7 @@ use Rattle.at.specs.Command.{executed}
 use Rattle.at.specs.At.{ended, commandByte, typedByte, lineFull}
 use Rattle.session.specs.declared.SessionState.{SessionState}
 use Rattle.session.specs.declared.SessionState.the-variants.{Dialling, Connected}
-use Rattle.sound.specs.Sound.{rateOk}
+use Rattle.soundness.specs.Sound.{rateOk}
 use Rattle.set.specs.declared.Set.{Set}
 use Rattle.set.specs.Set.{freshSet}
 use Rattle.set.specs.Book.{Call, typing, filling, Book, blank, lengthOf, stageOfSample, shownBy, lit, entered}

@@ -39,7 +39,7 @@ fn dial(line: Line, rate: u32) -> Session
 }
 
 // Does what the AT processor asks of the call control.
-pub fn obey(control: Control, session: Session, line: Line, rate: u32) -> Session
+pub fn apply(control: Control, session: Session, line: Line, rate: u32) -> Session
     ensures { λ r. ⌜ r ≡ controlled control session (drop 4 (commandLine.typed line)) rate ⌝ }
 {
     match control {

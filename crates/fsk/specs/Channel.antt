@@ -8,7 +8,7 @@ use Rattle.math.specs.Float.{f64, zero, ofNat, times}
 use Rattle.nco.specs.declared.Nco.{Nco}
 use Rattle.nco.specs.Nco.{freshNco, retuned, sampleOf, steppedNco}
 use Rattle.frame.specs.Frame.{bitAt}
-use Rattle.schedule.specs.Time.{oneMore}
+use Rattle.schedule.specs.Time.{saturatingInc}
 use Rattle.schedule.specs.Symbols.{symbolStep, symbolEnds, nextPhase}
 use Rattle.fsk.specs.declared.FskChannel.{FskChannel}
 
@@ -29,7 +29,7 @@ channelSample f = keyed (sampleOf (f .nco))
 
 -- the bits done after a sample with which one is done, or none is
 abbrev pub doneNext : Bool → ℕ → ℕ
-doneNext true k = oneMore k
+doneNext true k = saturatingInc k
 doneNext false k = k
 
 -- the oscillator after a sample: at bit k's tone, or as it was
@@ -41,7 +41,7 @@ ncoNext false o payload k = steppedNco o
 unfoldable pub nextChannel : FskChannel → List ℕ → FskChannel
 nextChannel f payload =
     record {
-      nco = ncoNext (symbolEnds (f .step) (f .phase)) (f .nco) payload (oneMore (f .done));
+      nco = ncoNext (symbolEnds (f .step) (f .phase)) (f .nco) payload (saturatingInc (f .done));
       done = doneNext (symbolEnds (f .step) (f .phase)) (f .done);
       phase = nextPhase (f .step) (f .phase);
       step = f .step;

@@ -55,7 +55,7 @@ impl FskChannel {
         let moved = nco.moved();
         let t = schedule::tick(self.phase, self.step);
         if t.done {
-            let k = schedule::one_more(self.done);
+            let k = schedule::saturating_inc(self.done);
             let bit = frame::payload_bit(payload, k as usize);
             let tuned = moved.set_freq(tone(bit));
             return FskChannel {

@@ -98,7 +98,7 @@ pub struct SinPair {
     pub b: f64,
 }
 
-fn in_turn(a: f64, b: f64) -> bool
+fn phase_in_range(a: f64, b: f64) -> bool
     ensures { λ r. ⌜ r ≡ ((le zero a && lt a tau) && (le zero b && lt b tau)) ⌝ }
 {
     ((a >= 0.0) & (a < TAU)) & ((b >= 0.0) & (b < TAU))
@@ -126,7 +126,7 @@ fn sin_rares(a: f64, b: f64) -> SinPair
 pub fn sin_both(a: f64, b: f64) -> SinPair
     ensures { λ r. ⌜ (r .a ≡ sine a) × (r .b ≡ sine b) ⌝ }
 {
-    if in_turn(a, b) {
+    if phase_in_range(a, b) {
         return full_waves(a, b);
     }
     sin_rares(a, b)
@@ -136,7 +136,7 @@ pub fn sin_both(a: f64, b: f64) -> SinPair
 pub fn sin_twice(a: f64, b: f64) -> SinPair
     ensures { λ r. ⌜ (r .a ≡ sine a) × (r .b ≡ sine b) ⌝ }
 {
-    if in_turn(a, b) {
+    if phase_in_range(a, b) {
         return full_waves(a, b);
     }
     sin_rares(a, b)

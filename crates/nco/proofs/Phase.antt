@@ -14,7 +14,7 @@ use lib.Ieee.Exact.{HasValue}
 use Rattle.math.specs.Float.{tau, plus, minus}
 use Rattle.math.proofs.Pattern.{magnitude, significand-lo, significand-hi}
 use Rattle.math.proofs.Wrapping.{Phase, negative-zero, in-range, wrap-stays}
-use Rattle.nco.specs.Nco.{advanced, inTurn, steppedNco}
+use Rattle.nco.specs.Nco.{advanced, phaseInRange, steppedNco}
 use Rattle.nco.specs.declared.Nco.{Nco}
 
 abbrev M : ℕ
@@ -44,17 +44,17 @@ below-tau (suc x) t H h = go (ltb x 1024) (ltb→lt x 1024) (nltb→le x 1024)
       | inr l ↦ absurd (not-le-of-lt h (le-trans (lit≤ tt) (mul-le-mul (significand-lo t) (pow-mono l))))
     ]
 
-phase-of : (x : Float) → T (fits binary64 x) → T (inTurn x) → Phase ((M - 1) * 2 ^ 1024) x
+phase-of : (x : Float) → T (fits binary64 x) → T (phaseInRange x) → Phase ((M - 1) * 2 ^ 1024) x
 phase-of x h k = elim (in-range tau (M * 2 ^ 1024) tau-value x h k) [
   | inl z ↦ inl z
   | inr w ↦ inr (record { at = magnitude (w .0 .e) (w .0 .t); value = w .1; most = below-tau (w .0 .e) (w .0 .t) (w .0 .digits) (w .2) })
 ]
 
-negative-zeros : T (inTurn (advanced negative-zero negative-zero))
+negative-zeros : T (phaseInRange (advanced negative-zero negative-zero))
 unfolding advanced add le lt ofBits round
 negative-zeros = tt
 
-pub phase-stays : (step phase : Float) → T (fits binary64 step) → T (fits binary64 phase) → T (inTurn step) → T (inTurn phase) → T (inTurn (advanced step phase))
+pub phase-stays : (step phase : Float) → T (fits binary64 step) → T (fits binary64 phase) → T (phaseInRange step) → T (phaseInRange phase) → T (phaseInRange (advanced step phase))
 unfolding advanced
 phase-stays step phase hs hp ks kp =
     wrap-stays tau (M * 2 ^ 1024) tau-value (M - 1) 1025 (M - 2) 1024 (lit< tt) (lit< tt) (lit< tt) (lit< tt) (lit≤ tt) (lit< tt)
@@ -65,8 +65,8 @@ phase-stays step phase hs hp ks kp =
 pub record Turning (n : Nco) : Type 0 where
   pub phase-fits : T (fits binary64 (n .phase))
   pub step-fits : T (fits binary64 (n .step))
-  pub phase-in : T (inTurn (n .phase))
-  pub step-in : T (inTurn (n .step))
+  pub phase-in : T (phaseInRange (n .phase))
+  pub step-in : T (phaseInRange (n .step))
 
 -- the next phase is a number of the format
 pub advanced-fits : (step phase : Float) → T (fits binary64 (advanced step phase))

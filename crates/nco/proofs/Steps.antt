@@ -18,7 +18,7 @@ use Rattle.math.proofs.Error.{rescale}
 use Rattle.math.proofs.Values.{mul-by, div-by, nat-value}
 use Rattle.math.proofs.Bounds.{AtMost, at-most}
 use Rattle.math.proofs.Wrapping.{value-within}
-use Rattle.nco.specs.Nco.{stepOf, inTurn, freshNco, retuned}
+use Rattle.nco.specs.Nco.{stepOf, phaseInRange, freshNco, retuned}
 use Rattle.nco.specs.declared.Nco.{Nco}
 use Rattle.nco.proofs.Phase.{tau-value, Turning}
 
@@ -26,8 +26,8 @@ tau-short : HasValue tau false 0x19_21fb_5444_2d18 (2 ^ 50)
 unfolding ofBits
 tau-short = (refl, refl)
 
-pub step-in-turn : (freq : Float) (k r : ℕ) → HasValue freq false k 1 → k ≤ 6000 → 8000 ≤ r → r ≤ 192000 → T (inTurn (stepOf freq (ofNat r)))
-step-in-turn freq k r f K lo hi =
+pub step-in-range : (freq : Float) (k r : ℕ) → HasValue freq false k 1 → k ≤ 6000 → 8000 ≤ r → r ≤ 192000 → T (phaseInRange (stepOf freq (ofNat r)))
+step-in-range freq k r f K lo hi =
     let m = times tau freq in
     let w : AtMost (40000 * 2 ^ 1074) m =
     subst (AtMost (40000 * 2 ^ 1074)) (sym (mul-by binary64 tau freq 0x19_21fb_5444_2d18 (2 ^ 50) k 1 (pow-pos 50) (pow-pos 0) tau-short f))
@@ -59,17 +59,17 @@ each : (p : ℕ → Type 0) → ((k : ℕ) → k ≤ 6000 → p k) → (ks : Lis
 each p f [] h = tt
 each p f (k ∷ ks) h = (f k (leb→le k 6000 (and-l (leb k 6000) (most ks) h)), each p f ks (and-r (leb k 6000) (most ks) h))
 
-pub frequencies-in-turn : (r : ℕ) → 8000 ≤ r → r ≤ 192000 → Each (λ k. T (inTurn (stepOf (ofNat k) (ofNat r)))) frequencies
-frequencies-in-turn r lo hi = each (λ k. T (inTurn (stepOf (ofNat k) (ofNat r)))) (λ k h. step-in-turn (ofNat k) k r (nat-value k (le-trans h (lit≤ tt))) h lo hi) frequencies tt
+pub frequencies-in-range : (r : ℕ) → 8000 ≤ r → r ≤ 192000 → Each (λ k. T (phaseInRange (stepOf (ofNat k) (ofNat r)))) frequencies
+frequencies-in-range r lo hi = each (λ k. T (phaseInRange (stepOf (ofNat k) (ofNat r)))) (λ k h. step-in-range (ofNat k) k r (nat-value k (le-trans h (lit≤ tt))) h lo hi) frequencies tt
 
 -- ---- oscillators
-zero-in : T (inTurn float.zero)
+zero-in : T (phaseInRange float.zero)
 unfolding le lt ofBits
 zero-in = tt
 
 pub fresh-turning : (freq : Float) (k r : ℕ) → HasValue freq false k 1 → k ≤ 6000 → 8000 ≤ r → r ≤ 192000 → Turning (freshNco freq (ofNat r))
 fresh-turning freq k r f K lo hi =
-    record { phase-fits = ofBits-fits binary64 0; step-fits = div-fits binary64 (times tau freq) (ofNat r); phase-in = zero-in; step-in = step-in-turn freq k r f K lo hi }
+    record { phase-fits = ofBits-fits binary64 0; step-fits = div-fits binary64 (times tau freq) (ofNat r); phase-in = zero-in; step-in = step-in-range freq k r f K lo hi }
 
 pub retuned-turning : {n : Nco} → Turning n → (freq : Float) (k r : ℕ) → n .rate ≡ ofNat r → HasValue freq false k 1 → k ≤ 6000 → 8000 ≤ r → r ≤ 192000 → Turning (retuned n freq)
 retuned-turning {n} t freq k r e f K lo hi =
@@ -77,5 +77,5 @@ retuned-turning {n} t freq k r e f K lo hi =
       phase-fits = t .phase-fits;
       step-fits = div-fits binary64 (times tau freq) (n .rate);
       phase-in = t .phase-in;
-      step-in = subst (λ (z : Float). T (inTurn (stepOf freq z))) (sym e) (step-in-turn freq k r f K lo hi);
+      step-in = subst (λ (z : Float). T (phaseInRange (stepOf freq z))) (sym e) (step-in-range freq k r f K lo hi);
     }

@@ -3,7 +3,7 @@ use mathlib.Core.Bool.{Bool, true, false, _&&_}
 use lib.Ieee.{Float}
 use Rattle.math.specs.Float.{zero}
 use Rattle.nco.specs.declared.Nco.{Nco}
-use Rattle.nco.specs.Nco.{inTurn, sampleOf, steppedNco}
+use Rattle.nco.specs.Nco.{phaseInRange, sampleOf, steppedNco}
 
 abbrev pub sampleIf : Bool → Nco → Float
 sampleIf true n = sampleOf n
@@ -14,7 +14,7 @@ steppedIf true n = steppedNco n
 steppedIf false n = n
 
 unfoldable pub lentSample : Nco → Float
-lentSample n = sampleIf (inTurn (n .phase) && inTurn (n .step)) n
+lentSample n = sampleIf (phaseInRange (n .phase) && phaseInRange (n .step)) n
 
 unfoldable pub lentNco : Nco → Nco
-lentNco n = steppedIf (inTurn (n .phase) && inTurn (n .step)) n
+lentNco n = steppedIf (phaseInRange (n .phase) && phaseInRange (n .step)) n

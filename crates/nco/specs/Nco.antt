@@ -30,5 +30,5 @@ abbrev pub steppedNco : Nco → Nco
 steppedNco n = record { phase = advanced (n .step) (n .phase); step = n .step; rate = n .rate }
 
 -- 01, "When a call is declined": a phase or a step in [0, TAU)
-abbrev pub inTurn : Float → Bool
-inTurn x = le zero x && lt x tau
+abbrev pub phaseInRange : Float → Bool
+phaseInRange x = le zero x && lt x tau

@@ -8,8 +8,8 @@ ghost use Rattle.nco.specs.Lent.{lentSample, lentNco};
 fn guarded(nco: Nco) -> Stepped
     ensures { λ r. ⌜ (r .sample ≡ lentSample nco) × (r .nco ≡ lentNco nco) ⌝ }
 {
-    let phase_ok = crate::in_turn(nco.phase);
-    let step_ok = crate::in_turn(nco.step);
+    let phase_ok = crate::phase_in_range(nco.phase);
+    let step_ok = crate::phase_in_range(nco.step);
     if phase_ok & step_ok {
         return nco.next();
     }

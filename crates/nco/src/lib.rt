@@ -1,6 +1,6 @@
 // A numerically controlled oscillator. Its phase runs on when the frequency changes, so a change makes no click.
 ghost use mathlib.Core.Path.{_≡_};
-ghost use Rattle.nco.specs.Nco.{advanced, freshNco, retuned, sampleOf, steppedNco, inTurn};
+ghost use Rattle.nco.specs.Nco.{advanced, freshNco, retuned, sampleOf, steppedNco, phaseInRange};
 
 pub mod lent;
 
@@ -19,8 +19,8 @@ pub struct Stepped {
 }
 
 // A phase or a step is in [0, TAU).
-pub fn in_turn(x: f64) -> bool
-    ensures { λ r. ⌜ r ≡ inTurn x ⌝ }
+pub fn phase_in_range(x: f64) -> bool
+    ensures { λ r. ⌜ r ≡ phaseInRange x ⌝ }
 {
     (x >= 0.0) & (x < TAU)
 }

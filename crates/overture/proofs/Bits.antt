@@ -8,7 +8,7 @@ use lib.Dec.{leb, ltb}
 use borrow.Author.Tests.{le-leb, lt-leb, lt-ltb, ltb-true}
 use Rattle.math.specs.Float as float
 use Rattle.frame.specs.Frame.{ciPayload, cmJmPayload, cjPayload, trainingPayload}
-use Rattle.schedule.specs.Time.{samplesIn, oneMore}
+use Rattle.schedule.specs.Time.{samplesIn, saturatingInc}
 use Rattle.schedule.specs.Length.{cjSilence}
 use Rattle.fsk.specs.declared.FskChannel.{FskChannel}
 use Rattle.fsk.specs.Channel.{channelSample, nextChannel}
@@ -68,6 +68,6 @@ module _ (digits : List ℕ) (r : ℕ) where
     unfolding sampleNext generateOf cjOf cjAt
     silence-sample = ap (λ (b : Bool). cjAt b f z r .sample) (le-leb 60 (f .done) h)
 
-    pub silence-state : stateNext (Cj f z) digits r ≡ onward (leb (samplesIn cjSilence r) (oneMore z)) (Cj f (oneMore z)) digits r
+    pub silence-state : stateNext (Cj f z) digits r ≡ onward (leb (samplesIn cjSilence r) (saturatingInc z)) (Cj f (saturatingInc z)) digits r
     unfolding stateNext generateOf cjOf cjAt
     silence-state = ap (λ (b : Bool). onward (cjAt b f z r .finished) (cjAt b f z r .state) digits r) (le-leb 60 (f .done) h)

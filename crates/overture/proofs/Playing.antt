@@ -14,7 +14,7 @@ use Rattle.stage.specs.declared.StageState.{StageState}
 use Rattle.stage.specs.Stage.{stageOf}
 use Rattle.stage.specs.Next.{sampleNext, stateNext}
 use Rattle.overture.specs.Iteration.{after, samples}
-use Rattle.overture.specs.Writers.{Sounds, PlayedIs}
+use Rattle.overture.specs.Writers.{Plays, PlayedIs}
 use Rattle.overture.proofs.Writing.{Going, start, ended}
 
 -- `Going`, but for the stage of the state in hand, which may be the next one
@@ -39,7 +39,7 @@ module _ (digits : List ℕ) (r : ℕ) (s₀ : StageState) (was : List Float) wh
 pub record Playing (f : Nco → Nco → Mixed) (count : ℕ) (a₀ b₀ : Nco) (was out : List Float) (x y : Nco) (i : ℕ) : Type 0 where
   pub long : length out ≡ length was
   pub few : i ≤ count
-  pub ran : (at : Nco → Nco → ℕ → StageState) (digits : List ℕ) (r : ℕ) → Sounds f at count digits r → Ran digits r (at a₀ b₀ 0) was out (at x y i) i
+  pub ran : (at : Nco → Nco → ℕ → StageState) (digits : List ℕ) (r : ℕ) → Plays f at count digits r → Ran digits r (at a₀ b₀ 0) was out (at x y i) i
 
 module _ (f : Nco → Nco → Mixed) (count : ℕ) (a₀ b₀ : Nco) (was : List Float) where
   pub playing-start : Playing f count a₀ b₀ was was a₀ b₀ 0

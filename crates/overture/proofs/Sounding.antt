@@ -11,7 +11,7 @@ use lib.Ieee.{Float}
 use borrow.Author.Tests.{lt-leb, eq-eqb}
 use Rattle.math.specs.Float.{f64, one}
 use Rattle.nco.specs.declared.Nco.{Nco}
-use Rattle.schedule.specs.Time.{timeAt, samplesIn, oneMore}
+use Rattle.schedule.specs.Time.{timeAt, samplesIn, saturatingInc}
 use Rattle.schedule.specs.Ansam.{signAt}
 use Rattle.schedule.specs.Ringback.{ringAt, ringTime, ringTone}
 use Rattle.schedule.specs.Dialling.{digitAt, inTone}
@@ -19,7 +19,7 @@ use Rattle.schedule.specs.Length.{ansamTime, ringbackTime}
 use Rattle.runs.specs.Runs.{counted, Before, OneSign, OneGate, OneKey}
 use Rattle.schedule.proofs.Constants.{three, four}
 use Rattle.tones.specs.declared.Mixed.{Mixed}
-use Rattle.tones.specs.Mixed.{soundedOf, answerOf}
+use Rattle.tones.specs.Mixed.{gatedOf, answerOf}
 use Rattle.tones.specs.declared.Dialled.{Dialled}
 use Rattle.tones.specs.Dial.{pairStays, takenOver, dialStepOf}
 use Rattle.stage.specs.declared.StageState.{StageState}
@@ -27,7 +27,7 @@ use Rattle.stage.specs.declared.StageState.the-variants.{DialTone, Ansam, Ringb
 use Rattle.stage.specs.Stage.{stageOf}
 use Rattle.stage.specs.Next.{sampleNext, stateNext, onward, generateOf, dialToneOf, ansamOf, ringbackOf, diallingOf, dialState}
 use Rattle.overture.specs.declared.Pair.{Pair}
-use Rattle.overture.specs.Writers.{WroteIs, Sounds, PlayedIs}
+use Rattle.overture.specs.Writers.{WroteIs, Plays, PlayedIs}
 
 module _ (digits : List ℕ) (r n : ℕ) where
   -- a stage with an end: the state s x y 0 at first, then s x y j, or where the count has come to the end the next stage's
@@ -48,7 +48,7 @@ module _ (digits : List ℕ) (r n : ℕ) where
         (sample : (x y : Nco) (j : ℕ) → j < c → sampleNext (s x y j) digits r ≡ f x y .sample)
         (next : (x y : Nco) (j : ℕ) → j < c → stateNext (s x y j) digits r ≡ onward (leb end (counted (suc j) n)) (s (f x y .a) (f x y .b) (suc j)) digits r)
         (stage : (x y u v : Nco) (j : ℕ) → stageOf (s x y j) ≡ stageOf (s u v 0)) where
-      sounds : Sounds f atCount c digits r
+      sounds : Plays f atCount c digits r
       sounds = record {
         sample = λ x y j l. rw (before c early x y j l) (sample x y j l);
         next = λ x y j l. rw (before c early x y j l) (next x y j l);
@@ -64,12 +64,12 @@ module _ (digits : List ℕ) (r n : ℕ) where
     abbrev dialToneAt : Nco → Nco → ℕ → StageState
     dialToneAt x y j = DialTone x y (counted j n)
 
-    dial-tone-wrote : (a b : Nco) (was is : List Float) (p : Pair) → PlayedIs (soundedOf true) c a b was is p → 0 < c → (x : StageState)
+    dial-tone-wrote : (a b : Nco) (was is : List Float) (p : Pair) → PlayedIs (gatedOf true) c a b was is p → 0 < c → (x : StageState)
         → x ≡ onward (leb (samplesIn one r) (counted c n)) (DialTone (p .a) (p .b) (counted c n)) digits r
         → WroteIs (DialTone a b n) digits r was is (record { state = x; written = c })
     unfolding counted stageOf sampleNext stateNext generateOf dialToneOf
     dial-tone-wrote a b was is p P some x e =
-        wrote (samplesIn one r) dialToneAt (soundedOf true) c early (λ x y j l. refl) (λ x y j l. refl) (λ x y u v j. refl) a b was is p P some x e
+        wrote (samplesIn one r) dialToneAt (gatedOf true) c early (λ x y j l. refl) (λ x y j l. refl) (λ x y u v j. refl) a b was is p P some x e
 
   -- ---- Ansam
   module _ (most c : ℕ) (S : OneSign r n most c) (early : (j : ℕ) → suc j < c → counted (suc j) n < samplesIn ansamTime r) where
@@ -85,7 +85,7 @@ module _ (digits : List ℕ) (r n : ℕ) where
         ≡ onward (leb (samplesIn ansamTime r) (counted (suc j) n)) (ansamAt (answerOf x y (signAt (timeAt r n)) .a) (answerOf x y (signAt (timeAt r n)) .b) (suc j)) digits r
     unfolding stateNext generateOf ansamOf counted
     ansam-next x y j l =
-        ap (λ (g : Float). onward (leb (samplesIn ansamTime r) (oneMore (counted j n))) (Ansam (answerOf x y g .a) (answerOf x y g .b) (oneMore (counted j n))) digits r) (S .sign j l)
+        ap (λ (g : Float). onward (leb (samplesIn ansamTime r) (saturatingInc (counted j n))) (Ansam (answerOf x y g .a) (answerOf x y g .b) (saturatingInc (counted j n))) digits r) (S .sign j l)
 
     ansam-wrote : (a b : Nco) (was is : List Float) (p : Pair) → PlayedIs (λ x y. answerOf x y (signAt (timeAt r n))) c a b was is p → (x : StageState)
         → x ≡ onward (leb (samplesIn ansamTime r) (counted c n)) (Ansam (p .a) (p .b) (counted c n)) digits r
@@ -104,19 +104,19 @@ module _ (digits : List ℕ) (r n : ℕ) where
     ringsAt x y zero = Ringback x y n z
     ringsAt x y (suc j) = Ringback x y (counted (suc j) n) (ringAt (timeAt r n))
 
-    rings-sample : (x y : Nco) (j : ℕ) → j < c → sampleNext (ringsAt x y j) digits r ≡ soundedOf on x y .sample
+    rings-sample : (x y : Nco) (j : ℕ) → j < c → sampleNext (ringsAt x y j) digits r ≡ gatedOf on x y .sample
     unfolding sampleNext generateOf ringbackOf
     rings-sample x y zero l = refl
-    rings-sample x y (suc j) l = ap (λ (g : Bool). soundedOf g x y .sample) (S .gate (suc j) l)
+    rings-sample x y (suc j) l = ap (λ (g : Bool). gatedOf g x y .sample) (S .gate (suc j) l)
 
     rings-next : (x y : Nco) (j : ℕ) → j < c
         → stateNext (ringsAt x y j) digits r
-        ≡ onward (leb (samplesIn ringbackTime r) (counted (suc j) n)) (ringsAt (soundedOf on x y .a) (soundedOf on x y .b) (suc j)) digits r
+        ≡ onward (leb (samplesIn ringbackTime r) (counted (suc j) n)) (ringsAt (gatedOf on x y .a) (gatedOf on x y .b) (suc j)) digits r
     unfolding stateNext generateOf ringbackOf counted
     rings-next x y zero l = refl
     rings-next x y (suc j) l =
-        ap (λ (g : Bool). onward (leb (samplesIn ringbackTime r) (oneMore (counted (suc j) n))) (Ringback (soundedOf g x y .a) (soundedOf g x y .b) (oneMore (counted (suc j) n)) (ringAt (timeAt r (counted (suc j) n)))) digits r) (S .gate (suc j) l)
-        ∙ ap (λ (q : ℕ). onward (leb (samplesIn ringbackTime r) (oneMore (counted (suc j) n))) (Ringback (soundedOf on x y .a) (soundedOf on x y .b) (oneMore (counted (suc j) n)) q) digits r) (S .ring (suc j) l)
+        ap (λ (g : Bool). onward (leb (samplesIn ringbackTime r) (saturatingInc (counted (suc j) n))) (Ringback (gatedOf g x y .a) (gatedOf g x y .b) (saturatingInc (counted (suc j) n)) (ringAt (timeAt r (counted (suc j) n)))) digits r) (S .gate (suc j) l)
+        ∙ ap (λ (q : ℕ). onward (leb (samplesIn ringbackTime r) (saturatingInc (counted (suc j) n))) (Ringback (gatedOf on x y .a) (gatedOf on x y .b) (saturatingInc (counted (suc j) n)) q) digits r) (S .ring (suc j) l)
 
     rings-stage : (x y u v : Nco) (j : ℕ) → stageOf (ringsAt x y j) ≡ stageOf (ringsAt u v 0)
     unfolding stageOf
@@ -127,11 +127,11 @@ module _ (digits : List ℕ) (r n : ℕ) where
     last-ring x y zero h = absurd (not-suc-le-zero h)
     last-ring x y (suc j) h = refl
 
-    ringback-wrote : (a b : Nco) (was is : List Float) (p : Pair) → PlayedIs (soundedOf on) c a b was is p → (x : StageState)
+    ringback-wrote : (a b : Nco) (was is : List Float) (p : Pair) → PlayedIs (gatedOf on) c a b was is p → (x : StageState)
         → x ≡ onward (leb (samplesIn ringbackTime r) (counted c n)) (Ringback (p .a) (p .b) (counted c n) (ringAt (timeAt r n))) digits r
         → WroteIs (Ringback a b n z) digits r was is (record { state = x; written = c })
     ringback-wrote a b was is p P x e =
-        wrote (samplesIn ringbackTime r) ringsAt (soundedOf on) c early rings-sample rings-next rings-stage a b was is p P (S .some) x
+        wrote (samplesIn ringbackTime r) ringsAt (gatedOf on) c early rings-sample rings-next rings-stage a b was is p P (S .some) x
         (e ∙ ap (λ (t : StageState). onward (leb (samplesIn ringbackTime r) (counted c n)) t digits r) (sym (last-ring (p .a) (p .b) c (S .some))))
 
   -- ---- Dialling, which does not end in a run
@@ -150,21 +150,21 @@ module _ (digits : List ℕ) (r n : ℕ) where
     -- a sample after which the clock tells the same pair
     step : (x y : Nco) (k : ℕ) → digitAt (timeAt r k) ≡ digit → inTone (timeAt r k) ≡ tone
         → dialStepOf (record { digit = digit; tone = tone; a = x; b = y }) k digits r
-        ≡ record { sample = soundedOf tone x y .sample; dial = record { digit = digit; tone = tone; a = soundedOf tone x y .a; b = soundedOf tone x y .b }; finished = false }
+        ≡ record { sample = gatedOf tone x y .sample; dial = record { digit = digit; tone = tone; a = gatedOf tone x y .a; b = gatedOf tone x y .b }; finished = false }
     unfolding dialStepOf takenOver
     step x y k d t = rw (lt-leb (length digits) digit some, d, t, lt-leb (length digits) digit some, stays)
 
-    dials-sample : (x y : Nco) (j : ℕ) → j < c → sampleNext (dialsAt x y j) digits r ≡ soundedOf tone x y .sample
+    dials-sample : (x y : Nco) (j : ℕ) → j < c → sampleNext (dialsAt x y j) digits r ≡ gatedOf tone x y .sample
     unfolding sampleNext generateOf diallingOf counted
-    dials-sample x y j l = ap (λ (d : Dialled). d .sample) (step x y (oneMore (counted j n)) (K .digit-stays j l) (K .tone-stays j l))
+    dials-sample x y j l = ap (λ (d : Dialled). d .sample) (step x y (saturatingInc (counted j n)) (K .digit-stays j l) (K .tone-stays j l))
 
-    dials-next : (x y : Nco) (j : ℕ) → j < c → stateNext (dialsAt x y j) digits r ≡ dialsAt (soundedOf tone x y .a) (soundedOf tone x y .b) (suc j)
+    dials-next : (x y : Nco) (j : ℕ) → j < c → stateNext (dialsAt x y j) digits r ≡ dialsAt (gatedOf tone x y .a) (gatedOf tone x y .b) (suc j)
     unfolding stateNext generateOf diallingOf counted
     dials-next x y j l =
-        ap (λ (d : Dialled). onward (d .finished) (dialState (d .dial) (oneMore (counted j n))) digits r)
-        (step x y (oneMore (counted j n)) (K .digit-stays j l) (K .tone-stays j l))
+        ap (λ (d : Dialled). onward (d .finished) (dialState (d .dial) (saturatingInc (counted j n))) digits r)
+        (step x y (saturatingInc (counted j n)) (K .digit-stays j l) (K .tone-stays j l))
 
-    pub dialling-wrote : (a b : Nco) (was is : List Float) (p : Pair) → PlayedIs (soundedOf tone) c a b was is p → 0 < c → (k : ℕ) → k ≡ counted c n
+    pub dialling-wrote : (a b : Nco) (was is : List Float) (p : Pair) → PlayedIs (gatedOf tone) c a b was is p → 0 < c → (k : ℕ) → k ≡ counted c n
         → WroteIs (Dialling digit tone a b n) digits r was is (record { state = Dialling digit tone (p .a) (p .b) k; written = c })
     unfolding counted stageOf
     dialling-wrote a b was is p P h k e =
@@ -175,7 +175,7 @@ module _ (digits : List ℕ) (r n end room left c k : ℕ) (B : Before n end roo
   sooner : c ≤ left → (j : ℕ) → suc j < c → counted (suc j) n < end
   sooner h j l = B .early j (lt-of-lt-of-le l h)
 
-  pub dial-tone-ran : end ≡ samplesIn one r → c ≡ left → PlayedIs (soundedOf true) c a b was is p → (t : Bool) → leb end k ≡ t
+  pub dial-tone-ran : end ≡ samplesIn one r → c ≡ left → PlayedIs (gatedOf true) c a b was is p → (t : Bool) → leb end k ≡ t
       → x ≡ onward t (DialTone (p .a) (p .b) k) digits r → WroteIs (DialTone a b n) digits r was is (record { state = x; written = c })
   dial-tone-ran ee ec P t et ex =
       dial-tone-wrote digits r n c (λ j l. rw (← ee) (sooner (le-of-eq ec) j l)) a b was is p P (rw ec (B .some)) x (ex ∙ rw (← et, ek, ee))
@@ -191,11 +191,11 @@ module _ (digits : List ℕ) (r n end room left c k : ℕ) (B : Before n end roo
       (ex ∙ rw (← et, ek, en))
 
   pub ringback-ran : (z ρ : ℕ) (on : Bool) (u v : Float) → end ≡ samplesIn (f64 0x4010_0000_0000_0000) r → u ≡ timeAt r n → ρ ≡ ringAt u → v ≡ ringTime u → on ≡ ringTone v
-      → OneGate r n left c → PlayedIs (soundedOf on) c a b was is p → (t : Bool) → leb end k ≡ t → x ≡ onward t (Ringback (p .a) (p .b) k ρ) digits r
+      → OneGate r n left c → PlayedIs (gatedOf on) c a b was is p → (t : Bool) → leb end k ≡ t → x ≡ onward t (Ringback (p .a) (p .b) k ρ) digits r
       → WroteIs (Ringback a b n z) digits r was is (record { state = x; written = c })
   ringback-ran z ρ on u v ee eu eρ ev eo S P t et ex =
       let en : end ≡ samplesIn ringbackTime r = ee ∙ ap (λ (d : Float). samplesIn d r) four in
       ringback-wrote digits r n left c z S (λ j l. rw (← en) (sooner (S .fits) j l)) a b was is p
-      (subst (λ (g : Bool). PlayedIs (soundedOf g) c a b was is p) (eo ∙ ap ringTone (ev ∙ ap ringTime eu)) P)
+      (subst (λ (g : Bool). PlayedIs (gatedOf g) c a b was is p) (eo ∙ ap ringTone (ev ∙ ap ringTime eu)) P)
       x
       (ex ∙ rw (← et, ek, en, eρ, eu))

@@ -46,12 +46,12 @@ pub record SentIs (f : FskChannel) (payload : List ℕ) (total : ℕ) (was is : 
 
 -- Some samples of one stage, each f's of the two oscillators, which become f's with it: after j of them the state is `at` of the two and j.
 -- With the last one the stage may end.
-pub record Sounds (f : Nco → Nco → Mixed) (at : Nco → Nco → ℕ → StageState) (count : ℕ) (digits : List ℕ) (r : ℕ) : Type 0 where
+pub record Plays (f : Nco → Nco → Mixed) (at : Nco → Nco → ℕ → StageState) (count : ℕ) (digits : List ℕ) (r : ℕ) : Type 0 where
   pub sample : (x y : Nco) (j : ℕ) → j < count → sampleNext (at x y j) digits r ≡ f x y .sample
   pub next : (x y : Nco) (j : ℕ) → j < count → stateNext (at x y j) digits r ≡ at (f x y .a) (f x y .b) (suc j)
   pub stage : (x y u v : Nco) (j : ℕ) → j < count → stageOf (at x y j) ≡ stageOf (at u v 0)
 
 -- what the players promise to each such stage
 pub record PlayedIs (f : Nco → Nco → Mixed) (count : ℕ) (a b : Nco) (was is : List Float) (p : Pair) : Type 0 where
-  pub wrote : (at : Nco → Nco → ℕ → StageState) (digits : List ℕ) (r : ℕ) → Sounds f at count digits r → 0 < count
+  pub wrote : (at : Nco → Nco → ℕ → StageState) (digits : List ℕ) (r : ℕ) → Plays f at count digits r → 0 < count
       → WroteIs (at a b 0) digits r was is (record { state = at (p .a) (p .b) count; written = count })

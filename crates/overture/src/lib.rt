@@ -12,7 +12,7 @@ ghost use Prim.Native.Nat.{_≤_, _<_};
 ghost use lib.ListN.{length};
 ghost use Rattle.stage.specs.declared.StageState.the-variants.{OffHook, DialTone, Ringback, Ci, Ansam, CmJm, Cj, Training, Connected};
 ghost use Rattle.stage.specs.Next.{dialState};
-ghost use Rattle.tones.specs.Mixed.{soundedOf, answerOf};
+ghost use Rattle.tones.specs.Mixed.{gatedOf, answerOf};
 ghost use Rattle.overture.specs.Iteration.{after, samples, shownAfter};
 ghost use Rattle.overture.specs.Writers.{WroteIs, SentIs, PlayedIs};
 
@@ -38,7 +38,7 @@ pub struct Pair {
 // Two tones over the part's front.
 fn play_tones(a: Nco, b: Nco, count: usize, out: &mut [f32]) -> Pair
     requires { ⌜ count ≤ length (now out) ⌝ }
-    ensures { λ p. ⌜ PlayedIs (soundedOf true) count a b (now (out .entry)) (now (out .exit)) p ⌝ }
+    ensures { λ p. ⌜ PlayedIs (gatedOf true) count a b (now (out .entry)) (now (out .exit)) p ⌝ }
 {
     let mut x = a;
     let mut y = b;
@@ -58,7 +58,7 @@ fn play_tones(a: Nco, b: Nco, count: usize, out: &mut [f32]) -> Pair
 // A gap, in which they rest.
 fn play_rest(a: Nco, b: Nco, count: usize, out: &mut [f32]) -> Pair
     requires { ⌜ count ≤ length (now out) ⌝ }
-    ensures { λ p. ⌜ PlayedIs (soundedOf false) count a b (now (out .entry)) (now (out .exit)) p ⌝ }
+    ensures { λ p. ⌜ PlayedIs (gatedOf false) count a b (now (out .entry)) (now (out .exit)) p ⌝ }
 {
     let mut i: usize = 0;
     while i < count {
@@ -68,9 +68,9 @@ fn play_rest(a: Nco, b: Nco, count: usize, out: &mut [f32]) -> Pair
     Pair { a, b }
 }
 
-fn play_sounded(on: bool, a: Nco, b: Nco, count: usize, out: &mut [f32]) -> Pair
+fn play_gated(on: bool, a: Nco, b: Nco, count: usize, out: &mut [f32]) -> Pair
     requires { ⌜ count ≤ length (now out) ⌝ }
-    ensures { λ p. ⌜ PlayedIs (soundedOf on) count a b (now (out .entry)) (now (out .exit)) p ⌝ }
+    ensures { λ p. ⌜ PlayedIs (gatedOf on) count a b (now (out .entry)) (now (out .exit)) p ⌝ }
 {
     if on {
         return play_tones(a, b, count, out);
@@ -108,7 +108,7 @@ fn write_off_hook(rng: u64, n: u32, digits: &[u8], rate: u32, out: &mut [f32]) -
     while i < out.len() {
         x = tones::shift(x);
         out[i] = math::narrow(tones::click_sample(x, schedule::seconds(k, rate)));
-        k = schedule::one_more(k);
+        k = schedule::saturating_inc(k);
         i += 1;
         if k as u64 >= end {
             return Wrote {
@@ -138,7 +138,7 @@ fn write_dial_tone(a: Nco, b: Nco, n: u32, digits: &[u8], rate: u32, out: &mut [
     let p = play_tones(a, b, count, out);
     let x = p.a;
     let y = p.b;
-    let k = runs::count_on(n, count);
+    let k = runs::saturating_add(n, count);
     if k as u64 >= end {
         return Wrote {
             state: stage::enter_state(Stage::Dialling, digits, rate),
@@ -171,7 +171,7 @@ fn write_dialled(dial: Dial, n: u32, digits: &[u8], rate: u32, out: &mut [f32]) 
             written: 0,
         };
     }
-    let k = schedule::one_more(n);
+    let k = schedule::saturating_inc(n);
     let d = tones::dial_step(dial, k, digits, rate);
     let x = d.dial;
     let y = x.a;
@@ -206,10 +206,10 @@ fn write_dialling(dial: Dial, n: u32, digits: &[u8], rate: u32, out: &mut [f32])
         if count > 0 {
             let a = dial.a;
             let b = dial.b;
-            let p = play_sounded(on, a, b, count, out);
+            let p = play_gated(on, a, b, count, out);
             let x = p.a;
             let y = p.b;
-            let k = runs::count_on(n, count);
+            let k = runs::saturating_add(n, count);
             return Wrote {
                 state: StageState::Dialling {
                     digit_i: i,
@@ -246,10 +246,10 @@ fn write_ringback(
     }
     let count = runs::ring_run(n, rate, runs::samples_left(n, end, room));
     let progress = schedule::ring_progress(schedule::seconds(n, rate));
-    let p = play_sounded(schedule::ringback_gate(progress.time), a, b, count, out);
+    let p = play_gated(schedule::ringback_gate(progress.time), a, b, count, out);
     let x = p.a;
     let y = p.b;
-    let k = runs::count_on(n, count);
+    let k = runs::saturating_add(n, count);
     if k as u64 >= end {
         return Wrote {
             state: stage::enter_state(Stage::Ci, digits, rate),
@@ -283,7 +283,7 @@ fn write_ansam(carrier: Nco, env: Nco, n: u32, digits: &[u8], rate: u32, out: &m
     let p = play_answer(carrier, env, sign, count, out);
     let x = p.a;
     let y = p.b;
-    let k = runs::count_on(n, count);
+    let k = runs::saturating_add(n, count);
     if k as u64 >= end {
         return Wrote {
             state: stage::enter_state(Stage::CmJm, digits, rate),
@@ -438,7 +438,7 @@ fn write_cj_silence(
     let mut i: usize = 0;
     while i < out.len() {
         out[i] = 0.0;
-        k = schedule::one_more(k);
+        k = schedule::saturating_inc(k);
         i += 1;
         if k as u64 >= end {
             return Wrote {

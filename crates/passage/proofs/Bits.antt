@@ -25,7 +25,7 @@ use Rattle.stage.specs.Next.{ciOf, cmJmOf, cjAt, cjOf, trainingOf, generateOf, 
 use Rattle.overture.specs.Iteration.{after}
 use Rattle.overture.proofs.Iteration.{after-suc}
 use Rattle.passage.proofs.Lasting.{Lasts, Passes, Course, then-lasts, passes}
-use Rattle.passage.proofs.Counted.{one-more, counted}
+use Rattle.passage.proofs.Counted.{saturating-inc, counted}
 
 -- ---- the channel
 -- after n samples of a payload
@@ -65,7 +65,7 @@ module _ (payload : List ℕ) (r : ℕ) where
       ∙ go (symbolEnds s (phaseAfter s n)) (doneAfter s n) (lt-of-le-of-lt (done-most s n) l)
     where
       go : (b : Bool) (k : ℕ) → k < 0xffff_ffff → doneNext b k ≡ doneBy b k
-      go true k h = one-more 0xffff_ffff (le-refl _) k h
+      go true k h = saturating-inc 0xffff_ffff (le-refl _) k h
       go false k h = refl
 
 -- a state that is the payload's channel after j samples

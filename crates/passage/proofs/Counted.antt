@@ -9,10 +9,10 @@ use lib.Dec.{leb, lit≤}
 use Rattle.math.specs.Float.{one}
 use Rattle.nco.specs.declared.Nco.{Nco}
 use Rattle.nco.specs.Nco.{steppedNco}
-use Rattle.schedule.specs.Time.{timeAt, samplesIn, oneMore}
+use Rattle.schedule.specs.Time.{timeAt, samplesIn, saturatingInc}
 use Rattle.schedule.specs.Ringback.{ringAt, ringTime, ringTone}
 use Rattle.schedule.specs.Length.{clickTime, ringbackTime, ansamTime}
-use Rattle.schedule.proofs.Count.{one-more-is}
+use Rattle.schedule.proofs.Count.{saturating-inc-is}
 use Rattle.schedule.proofs.Lengths.{click-range, dial-tone-range, ringback-range, ansam-range}
 use Rattle.tones.specs.declared.Mixed.{Mixed}
 use Rattle.stage.specs.declared.Stage.{Stage}
@@ -23,12 +23,12 @@ use Rattle.stage.specs.Stage.{nextStage, stageOf}
 use Rattle.stage.specs.Enter.{enterOf}
 use Rattle.stage.specs.Next.{offHookOf, dialToneOf, ringbackOf, ansamOf, generateOf}
 use Rattle.tones.specs.Samples.{shifted}
-use Rattle.tones.specs.Mixed.{soundedOf, answerOf}
+use Rattle.tones.specs.Mixed.{gatedOf, answerOf}
 use Rattle.passage.proofs.Lasting.{Passes, Course, passes}
 
 -- one more of a count that no stage's length lets run to the largest
-pub one-more : (L : ℕ) → L ≤ 0xffff_ffff → (n : ℕ) → n < L → oneMore n ≡ suc n
-one-more L most n l = one-more-is n (lt-of-lt-of-le l most) ∙ add-one n
+pub saturating-inc : (L : ℕ) → L ≤ 0xffff_ffff → (n : ℕ) → n < L → saturatingInc n ≡ suc n
+saturating-inc L most n l = saturating-inc-is n (lt-of-lt-of-le l most) ∙ add-one n
 
 -- a state whose count is j
 abbrev pub Counts : {X : Type 0} → (X → ℕ → StageState) → ℕ → StageState → Type 0
@@ -37,13 +37,13 @@ Counts {X} state j s = (x : X) × (s ≡ state x j)
 module _ (digits : List ℕ) (r : ℕ) (k : Stage) (L : ℕ) (some : 1 ≤ L) (most : L ≤ 0xffff_ffff)
     {X : Type 0} (state : X → ℕ → StageState) (moved : X → ℕ → X)
     (named : (x : X) (n : ℕ) → stageOf (state x n) ≡ k)
-    (moves : (x : X) (n : ℕ) → generateOf (state x n) digits r .state ≡ state (moved x n) (oneMore n))
-    (finishes : (x : X) (n : ℕ) → generateOf (state x n) digits r .finished ≡ leb L (oneMore n)) where
+    (moves : (x : X) (n : ℕ) → generateOf (state x n) digits r .state ≡ state (moved x n) (saturatingInc n))
+    (finishes : (x : X) (n : ℕ) → generateOf (state x n) digits r .finished ≡ leb L (saturatingInc n)) where
   course : Course digits r k (Counts state) (λ n. n) L L
   course = record {
     named = λ j s a. ap stageOf (a .1) ∙ named (a .0) j;
-    moves = λ j s a l. (moved (a .0) j, ap (λ (t : StageState). generateOf t digits r .state) (a .1) ∙ moves (a .0) j ∙ ap (state (moved (a .0) j)) (one-more L most j (le-of-lt l)));
-    finishes = λ j s a l. ap (λ (t : StageState). generateOf t digits r .finished) (a .1) ∙ finishes (a .0) j ∙ ap (leb L) (one-more L most j l);
+    moves = λ j s a l. (moved (a .0) j, ap (λ (t : StageState). generateOf t digits r .state) (a .1) ∙ moves (a .0) j ∙ ap (state (moved (a .0) j)) (saturating-inc L most j (le-of-lt l)));
+    finishes = λ j s a l. ap (λ (t : StageState). generateOf t digits r .finished) (a .1) ∙ finishes (a .0) j ∙ ap (leb L) (saturating-inc L most j l);
   }
 
   pub counted : (x : X) → Passes digits r (state x 0) k (Counts state) L (enterOf (nextStage k) digits r)
@@ -72,7 +72,7 @@ module _ (digits : List ℕ) (r : ℕ) (lo : 8000 ≤ r) (hi : r ≤ 192000) whe
       (λ rng n. refl) (λ rng n. refl) (λ rng n. refl) _
 
   pub dial-tone-passes : Passes digits r (enterOf stage.DialTone digits r) stage.DialTone (Counts dialTone) (samplesIn one r) (enterOf stage.Dialling digits r)
-  unfolding enterOf nextStage stageOf generateOf dialToneOf soundedOf
+  unfolding enterOf nextStage stageOf generateOf dialToneOf gatedOf
   dial-tone-passes =
       let range = dial-tone-range r lo hi in
       counted digits r stage.DialTone (samplesIn one r) (range .0) (le-trans (range .1) (lit≤ tt)) dialTone (λ x n. (steppedNco (x .0), steppedNco (x .1)))
@@ -82,8 +82,8 @@ module _ (digits : List ℕ) (r : ℕ) (lo : 8000 ≤ r) (hi : r ≤ 192000) whe
   unfolding enterOf nextStage stageOf generateOf ringbackOf
   ringback-passes =
       let range = ringback-range r lo hi in
-      let sounded : Nco × Nco × ℕ → ℕ → Mixed = λ x n. soundedOf (ringTone (ringTime (timeAt r n))) (x .0) (x .1) in
-      counted digits r stage.Ringback (samplesIn ringbackTime r) (range .0) (le-trans (range .1) (lit≤ tt)) ringback (λ x n. (sounded x n .a, sounded x n .b, ringAt (timeAt r n)))
+      let gated : Nco × Nco × ℕ → ℕ → Mixed = λ x n. gatedOf (ringTone (ringTime (timeAt r n))) (x .0) (x .1) in
+      counted digits r stage.Ringback (samplesIn ringbackTime r) (range .0) (le-trans (range .1) (lit≤ tt)) ringback (λ x n. (gated x n .a, gated x n .b, ringAt (timeAt r n)))
       (λ x n. refl) (λ x n. refl) (λ x n. refl) (_, _, _)
 
   pub ansam-passes : Passes digits r (enterOf stage.Ansam digits r) stage.Ansam (Counts ansam) (samplesIn ansamTime r) (enterOf stage.CmJm digits r)

@@ -18,7 +18,7 @@ use Rattle.math.specs.Whole.{floorOf}
 use Rattle.math.proofs.Tests.{beq-same}
 use Rattle.math.proofs.Values.{nat-value, div-by}
 use Rattle.nco.specs.Nco.{stepOf}
-use Rattle.schedule.specs.Time.{timeAt, oneMore}
+use Rattle.schedule.specs.Time.{timeAt, saturatingInc}
 use Rattle.schedule.specs.Dialling.{digitAt, inTone}
 use Rattle.schedule.specs.Length.{diallingLength}
 use Rattle.schedule.proofs.Samples.{rate-value}
@@ -30,11 +30,11 @@ use Rattle.stage.specs.declared.StageState.the-variants.{Dialling}
 use Rattle.stage.specs.Stage.{nextStage, stageOf}
 use Rattle.stage.specs.Enter.{enterOf}
 use Rattle.stage.specs.Next.{dialState, diallingOf, generateOf, stateNext}
-use Rattle.tones.specs.Mixed.{soundedOf}
+use Rattle.tones.specs.Mixed.{gatedOf}
 use Rattle.tones.specs.Dial.{digitTones, pairStays, takenOver, dialledAt, dialStepOf}
 use Rattle.overture.specs.Iteration.{after}
 use Rattle.passage.proofs.Lasting.{Lasts, Passes, Course, passes}
-use Rattle.passage.proofs.Counted.{one-more}
+use Rattle.passage.proofs.Counted.{saturating-inc}
 
 -- ---- the first sample is at t = 0: digit 0, in tone
 no-time : (r : ℕ) → 8000 ≤ r → r ≤ 192000 → timeAt r 0 ≡ float.zero
@@ -62,11 +62,11 @@ pub record Pair (digits : List ℕ) (r i : ℕ) (on : Bool) (dial : Dial) : Type
   pub high : on ≡ true → dial .b .step ≡ stepOf (digitTones digits i .high) (ofNat r)
 
 -- a sample of it leaves it as it is
-sounded-pair : (digits : List ℕ) (r i : ℕ) (on : Bool) (dial : Dial) → Pair digits r i on dial
-    → (t : Bool) → Pair digits r i on (record { digit = dial .digit; tone = dial .tone; a = soundedOf t (dial .a) (dial .b) .a; b = soundedOf t (dial .a) (dial .b) .b })
-unfolding soundedOf
-sounded-pair digits r i on dial p true = record { digit = p .digit; tone = p .tone; low = p .low; high = p .high }
-sounded-pair digits r i on dial p false = record { digit = p .digit; tone = p .tone; low = p .low; high = p .high }
+gated-pair : (digits : List ℕ) (r i : ℕ) (on : Bool) (dial : Dial) → Pair digits r i on dial
+    → (t : Bool) → Pair digits r i on (record { digit = dial .digit; tone = dial .tone; a = gatedOf t (dial .a) (dial .b) .a; b = gatedOf t (dial .a) (dial .b) .b })
+unfolding gatedOf
+gated-pair digits r i on dial p true = record { digit = p .digit; tone = p .tone; low = p .low; high = p .high }
+gated-pair digits r i on dial p false = record { digit = p .digit; tone = p .tone; low = p .low; high = p .high }
 
 -- a changed pair is taken over
 taken-pair : (digits : List ℕ) (r i : ℕ) (on stays : Bool) (dial : Dial) → (stays ≡ true → Pair digits r i on dial) → Pair digits r i on (takenOver stays i on dial digits r)
@@ -89,11 +89,11 @@ pub record Dials (digits : List ℕ) (r n : ℕ) (s : StageState) : Type 0 where
   pub pair : Pair digits r (digitAt (timeAt r n)) (inTone (timeAt r n)) dial
 
 -- ---- one sample, before which n have been made
-module _ (digits : List ℕ) (r : ℕ) (dial : Dial) (n : ℕ) (more : oneMore n ≡ suc n) (at : dial .digit < length digits) where
+module _ (digits : List ℕ) (r : ℕ) (dial : Dial) (n : ℕ) (more : saturatingInc n ≡ suc n) (at : dial .digit < length digits) where
   abbrev t : Float
   t = timeAt r (suc n)
 
-  step-is : dialStepOf dial (oneMore n) digits r ≡ dialledAt dial (soundedOf (dial .tone) (dial .a) (dial .b)) t digits r
+  step-is : dialStepOf dial (saturatingInc n) digits r ≡ dialledAt dial (gatedOf (dial .tone) (dial .a) (dial .b)) t digits r
   unfolding dialStepOf
   step-is = ap (λ (m : ℕ). dialStepOf dial m digits r) more ∙ rw (lt-leb (length digits) (dial .digit) at)
 
@@ -104,9 +104,9 @@ module _ (digits : List ℕ) (r : ℕ) (dial : Dial) (n : ℕ) (more : oneMore n
   dial-moves : (i : ℕ) (on : Bool) → Pair digits r i on dial → digitAt t < length digits → Dials digits r (suc n) (diallingOf dial n digits r .state)
   unfolding diallingOf
   dial-moves i on p l = record {
-    dial = dialStepOf dial (oneMore n) digits r .dial;
+    dial = dialStepOf dial (saturatingInc n) digits r .dial;
     state = rw more;
-    pair = rw step-is (taken-pair digits r (digitAt t) (inTone t) _ _ (λ e. sounded-pair digits r (digitAt t) (inTone t) dial (same e) (dial .tone)));
+    pair = rw step-is (taken-pair digits r (digitAt t) (inTone t) _ _ (λ e. gated-pair digits r (digitAt t) (inTone t) dial (same e) (dial .tone)));
   }
     where
       same : pairStays (length digits) (digitAt t) (inTone t) (dial .digit) (dial .tone) ≡ true → Pair digits r (digitAt t) (inTone t) dial
@@ -134,8 +134,8 @@ module _ (digits : List ℕ) (r : ℕ) (lo : 8000 ≤ r) (hi : r ≤ 192000) (so
   unfolding stageOf generateOf
   course = record {
     named = λ j s a. ap stageOf (a .state);
-    moves = λ j s a l. rw (a .state) (dial-moves digits r (a .dial) j (one-more L short j (le-of-lt l)) (dial-below j s a (le-of-lt l)) _ _ (a .pair) (digit-below (suc j) l));
-    finishes = λ j s a l. rw (a .state) (dial-finishes digits r (a .dial) j (one-more L short j l) (dial-below j s a l));
+    moves = λ j s a l. rw (a .state) (dial-moves digits r (a .dial) j (saturating-inc L short j (le-of-lt l)) (dial-below j s a (le-of-lt l)) _ _ (a .pair) (digit-below (suc j) l));
+    finishes = λ j s a l. rw (a .state) (dial-finishes digits r (a .dial) j (saturating-inc L short j l) (dial-below j s a l));
   }
 
   start : Dials digits r 0 (enterOf stage.Dialling digits r)

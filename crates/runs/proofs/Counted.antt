@@ -4,18 +4,18 @@ use Prim.Native.Nat.{ℕ, zero, suc, _+_, _≤_, _<_}
 use native.Mathlib.Omega.{arith}
 use mathlib.Core.Bool.{Bool, true, false, not}
 use lib.Dec.{T, ltb, ltb→lt, nltb→le}
-use Rattle.schedule.specs.Time.{oneMore, countUp}
-use Rattle.schedule.proofs.Count.{one-more-is}
+use Rattle.schedule.specs.Time.{saturatingInc, countUp}
+use Rattle.schedule.proofs.Count.{saturating-inc-is}
 use Rattle.runs.specs.Runs.{counted}
 
 -- the largest stays
-largest : oneMore 0xffff_ffff ≡ 0xffff_ffff
-unfolding oneMore
+largest : saturatingInc 0xffff_ffff ≡ 0xffff_ffff
+unfolding saturatingInc
 largest = refl
 
-one-more-le : (n : ℕ) → oneMore n ≤ n + 1
-unfolding oneMore
-one-more-le n = go (ltb n 0xffff_ffff)
+saturating-inc-le : (n : ℕ) → saturatingInc n ≤ n + 1
+unfolding saturatingInc
+saturating-inc-le n = go (ltb n 0xffff_ffff)
   where
     go : (t : Bool) → countUp t n ≤ n + 1
     go true = omega arith
@@ -27,7 +27,7 @@ unfolding counted
 counted-is zero n h = omega arith
 counted-is (suc j) n h =
     let e = counted-is j n (omega arith) in
-    let m = one-more-is (counted j n) (omega arith) in
+    let m = saturating-inc-is (counted j n) (omega arith) in
     omega arith
 
 pub counted-most : (j n : ℕ) → n ≤ 0xffff_ffff → 0xffff_ffff ≤ n + j → counted j n ≡ 0xffff_ffff
@@ -35,17 +35,17 @@ unfolding counted
 counted-most zero n h k = omega arith
 counted-most (suc j) n h k = go (ltb (n + j) 0xffff_ffff) (ltb→lt (n + j) 0xffff_ffff) (λ t. counted-most j n h (nltb→le (n + j) 0xffff_ffff t))
   where
-    go : (t : Bool) → (T t → n + j < 0xffff_ffff) → (T (not t) → counted j n ≡ 0xffff_ffff) → oneMore (counted j n) ≡ 0xffff_ffff
+    go : (t : Bool) → (T t → n + j < 0xffff_ffff) → (T (not t) → counted j n ≡ 0xffff_ffff) → saturatingInc (counted j n) ≡ 0xffff_ffff
     go true l g =
         let e = counted-is j n (omega (arith, l tt)) in
-        let m = one-more-is (counted j n) (omega (arith, l tt)) in
+        let m = saturating-inc-is (counted j n) (omega (arith, l tt)) in
         omega (arith, l tt)
-    go false l g = ap oneMore (g tt) ∙ largest
+    go false l g = ap saturatingInc (g tt) ∙ largest
 
 pub counted-le : (j n : ℕ) → counted j n ≤ n + j
 unfolding counted
 counted-le zero n = omega arith
 counted-le (suc j) n =
     let e = counted-le j n in
-    let m = one-more-le (counted j n) in
+    let m = saturating-inc-le (counted j n) in
     omega arith

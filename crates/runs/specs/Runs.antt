@@ -7,7 +7,7 @@ use lib.Dec.{eqb}
 use lib.Ieee.{Float, le, lt}
 use Rattle.math.specs.Float.{one, plus, over}
 use Rattle.math.specs.Whole.{floorOf}
-use Rattle.schedule.specs.Time.{timeAt, oneMore}
+use Rattle.schedule.specs.Time.{timeAt, saturatingInc}
 use Rattle.schedule.specs.Dialling.{digitAt, inTone}
 use Rattle.schedule.specs.Ringback.{ringOn, ringOff, ringAt, ringTime, ringTone}
 use Rattle.schedule.specs.Ansam.{reversal, signAt}
@@ -15,7 +15,7 @@ use Rattle.schedule.specs.Ansam.{reversal, signAt}
 -- the count after j samples more
 unfoldable pub counted : ℕ → ℕ → ℕ
 counted zero n = n
-counted (suc j) n = oneMore (counted j n)
+counted (suc j) n = saturatingInc (counted j n)
 
 -- c samples, of which none but the last brings the count to the end
 pub record Before (n end most c : ℕ) : Type 0 where

@@ -14,7 +14,7 @@ const MAX_RATE: u32 = 192_000;
 const MAX_COUNT: u32 = 0x4000_0000;
 
 // The count after c samples more.
-pub fn count_on(n: u32, c: usize) -> u32
+pub fn saturating_add(n: u32, c: usize) -> u32
     ensures { λ r. ⌜ r ≡ counted c n ⌝ }
 {
     let room = 0xffff_ffff - n;

@@ -2,8 +2,8 @@
 use mathlib.Core.Path.{_≡_}
 use Prim.Native.Nat.{ℕ, _+_, _<_}
 use borrow.Author.Tests.{lt-ltb}
-use Rattle.schedule.specs.Time.{oneMore}
+use Rattle.schedule.specs.Time.{saturatingInc}
 
-pub one-more-is : (n : ℕ) → n < 0xffff_ffff → oneMore n ≡ n + 1
-unfolding oneMore
-one-more-is n h = rw (lt-ltb n 0xffff_ffff h)
+pub saturating-inc-is : (n : ℕ) → n < 0xffff_ffff → saturatingInc n ≡ n + 1
+unfolding saturatingInc
+saturating-inc-is n h = rw (lt-ltb n 0xffff_ffff h)

@@ -19,5 +19,5 @@ abbrev pub countUp : Bool → ℕ → ℕ
 countUp true n = n + 1
 countUp false n = n
 
-unfoldable pub oneMore : ℕ → ℕ
-oneMore n = countUp (ltb n 0xffff_ffff) n
+unfoldable pub saturatingInc : ℕ → ℕ
+saturatingInc n = countUp (ltb n 0xffff_ffff) n

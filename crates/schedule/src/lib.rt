@@ -1,7 +1,7 @@
 // When each stage of an overture does what: seconds, digits, rings, symbols, and how long a
 // stage lasts. There is no oscillator in here, so that a length is worked out without a sample.
 ghost use mathlib.Core.Path.{_≡_};
-ghost use Rattle.schedule.specs.Time.{timeAt, samplesIn, oneMore};
+ghost use Rattle.schedule.specs.Time.{timeAt, samplesIn, saturatingInc};
 ghost use Rattle.schedule.specs.Dialling.{digitAt, inTone};
 ghost use Rattle.schedule.specs.Ringback.{ringAt, ringTime, ringTone};
 ghost use Rattle.schedule.specs.Ansam.{signAt};
@@ -22,8 +22,8 @@ pub const ANSAM_REVERSAL_S: f64 = 0.45;
 const BAUD: f64 = 300.0;
 
 // One more of a count; the largest stays.
-pub fn one_more(n: u32) -> u32
-    ensures { λ r. ⌜ r ≡ oneMore n ⌝ }
+pub fn saturating_inc(n: u32) -> u32
+    ensures { λ r. ⌜ r ≡ saturatingInc n ⌝ }
 {
     if n < 0xffff_ffff {
         return n + 1;

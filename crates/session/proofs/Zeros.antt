@@ -9,10 +9,10 @@ use lib.ListN.{length, drop, set, replicate, length-append, length-replicate, le
 use lib.Ieee.{Float}
 
 module _ (v : Float) where
-  one-more : (n : ℕ) (d : List Float) → n < length d → set (replicate n v ++ drop n d) n v ≡ replicate (suc n) v ++ drop (suc n) d
-  one-more n [] l = absurd (not-suc-le-zero l)
-  one-more zero (x ∷ d) l = refl
-  one-more (suc n) (x ∷ d) l = ap (λ (xs : List Float). v ∷ xs) (one-more n d (le-of-suc-le-suc l))
+  saturating-inc : (n : ℕ) (d : List Float) → n < length d → set (replicate n v ++ drop n d) n v ≡ replicate (suc n) v ++ drop (suc n) d
+  saturating-inc n [] l = absurd (not-suc-le-zero l)
+  saturating-inc zero (x ∷ d) l = refl
+  saturating-inc (suc n) (x ∷ d) l = ap (λ (xs : List Float). v ∷ xs) (saturating-inc n d (le-of-suc-le-suc l))
 
   -- n of them, before what was there
   pub record Silent (was out : List Float) (n : ℕ) : Type 0 where
@@ -27,7 +27,7 @@ module _ (v : Float) where
     below l = subst (λ (k : ℕ). n < k) as-long l
 
     pub again : n < length out → Silent was (set out n v) (n + 1)
-    again l = record { count = omega (arith, below l); buffer = rw (S .buffer, add-one) (one-more n was (below l)) }
+    again l = record { count = omega (arith, below l); buffer = rw (S .buffer, add-one) (saturating-inc n was (below l)) }
 
     pub whole : length out ≤ n → out ≡ replicate (length was) v
     whole l =

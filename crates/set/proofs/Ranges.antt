@@ -5,9 +5,9 @@ use mathlib.Core.Bool.{true, and-eq-true-iff}
 use lib.Dec.{leb}
 use borrow.Author.Tests.{leb-true}
 use Rattle.at.specs.Processor as processor
-use Rattle.sound.specs.Sound.{soundState}
-use Rattle.sound.proofs.Limits.{rate-low, rate-high}
-use Rattle.sound.proofs.Next.{sound-apart}
+use Rattle.soundness.specs.Sound.{soundState}
+use Rattle.soundness.proofs.Limits.{rate-low, rate-high}
+use Rattle.soundness.proofs.Next.{sound-apart}
 use Rattle.session.specs.Session.{digitsHeld}
 use Rattle.set.specs.declared.Set.{Set}
 use Rattle.set.specs.Sound.{sound}

@@ -33,7 +33,7 @@ use Rattle.set.specs.Sound.{sound}
 use Rattle.control.specs.Control.{heardIn, heard, controlled}
 use Rattle.control.proofs.Prefix.{few-after}
 use Rattle.set.specs.Set.{typedIf, typed, lapsed, forced, isUp, fillIf, fill, buffer}
-use Rattle.set.specs.Book.{Call, typing, time, forcing, filling, Book, stageOfSample, typingRefusal, fillRefusal, declinedWith, fedBy, lapsedBy, obeyed, shownBy, lit, filledIn, unlessDeclined, entered}
+use Rattle.set.specs.Book.{Call, typing, time, forcing, filling, Book, stageOfSample, typingRefusal, fillRefusal, declinedWith, fedBy, lapsedBy, applied, shownBy, lit, filledIn, unlessDeclined, entered}
 use Rattle.set.proofs.Ranges.{sound-processor}
 
 -- where nothing is dialled no samples are to come; else the state is `count` samples into the overture
@@ -61,13 +61,13 @@ pub few-typed : (k : Book) → processor.sound (k .processor) ≡ true → (byte
 few-typed k good byte carrier room =
     few-after (fedBy k byte carrier room) (line-ended (k .processor) byte (heardIn (k .state) carrier) room good .fits)
 
-obeys : (r : ℕ) (k : Book) (c : Control) (line : List ℕ) (p : AtProcessor) → length line ≤ 76
-    → _≡_ {A = Set} (record { rate = r; processor = p; session = controlled c (sessionOf r k) line r }) (reached r (obeyed c line p k))
+applies : (r : ℕ) (k : Book) (c : Control) (line : List ℕ) (p : AtProcessor) → length line ≤ 76
+    → _≡_ {A = Set} (record { rate = r; processor = p; session = controlled c (sessionOf r k) line r }) (reached r (applied c line p k))
 unfolding controlled dialling idle answering reached after
-obeys r k Nothing line p short = refl
-obeys r k Answer line p short = refl
-obeys r k Hangup line p short = refl
-obeys r k Dial line p short =
+applies r k Nothing line p short = refl
+applies r k Answer line p short = refl
+applies r k Hangup line p short = refl
+applies r k Dial line p short =
     ap
     (λ (digits : List ℕ). record {
       rate = r;
@@ -150,12 +150,12 @@ pub record Follows (r : ℕ) (k : Book) (call : Call) (next : Set) (refusal : Re
 module _ (r : ℕ) (k : Book) where
   typing-by : (room full : Bool) (byte : ℕ) (carrier : Bool) (n : ℕ) → length (afterAtdt (fedBy k byte carrier n)) ≤ 76
       → (typedIf true room full (reached r k) byte carrier n .set
-      ≡ reached r (unlessDeclined (typingRefusal room full) k (obeyed (fedBy k byte carrier n .control) (afterAtdt (fedBy k byte carrier n)) (fedBy k byte carrier n .processor) k)))
+      ≡ reached r (unlessDeclined (typingRefusal room full) k (applied (fedBy k byte carrier n .control) (afterAtdt (fedBy k byte carrier n)) (fedBy k byte carrier n .processor) k)))
       × (refusalNumber (typedIf true room full (reached r k) byte carrier n .refusal) ≡ typingRefusal room full)
   unfolding reached refusalNumber heard
   typing-by false full byte carrier n short = (refl, refl)
   typing-by true true byte carrier n short = (refl, refl)
-  typing-by true false byte carrier n short = (obeys r k (fedBy k byte carrier n .control) _ _ short, refl)
+  typing-by true false byte carrier n short = (applies r k (fedBy k byte carrier n .control) _ _ short, refl)
 
   filling-by : (long : Bool) (p : AtProcessor) (state : SessionState) (digits : List ℕ) (count shown b : ℕ)
       → let book : Book = record { processor = p; state = state; digits = digits; count = count; shown = shown } in
@@ -182,7 +182,7 @@ module _ (r : ℕ) (k : Book) where
     unfolding lapsed entered reached refusalNumber heard
     time-follows ns carrier =
         record {
-          set = rw ok (obeys r k (lapsedBy k ns carrier .control) [] (lapsedBy k ns carrier .processor) zero-le);
+          set = rw ok (applies r k (lapsedBy k ns carrier .control) [] (lapsedBy k ns carrier .processor) zero-le);
           number = rw ok;
         }
 

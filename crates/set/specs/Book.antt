@@ -77,11 +77,11 @@ lapsedBy k ns carrier = lapse (k .processor) ns (heardIn (k .state) carrier)
 
 -- an answer makes the state Answering; a hang-up and a lost carrier make it Idle; all three set count and shown stage to 0, and so does a dial
 -- line, which makes it Dialling and notes the digits
-abbrev pub obeyed : Control → List ℕ → AtProcessor → Book → Book
-obeyed Nothing line p k = record { processor = p; state = k .state; digits = k .digits; count = k .count; shown = k .shown }
-obeyed Answer line p k = record { processor = p; state = Answering; digits = []; count = 0; shown = 0 }
-obeyed Hangup line p k = record { processor = p; state = Idle; digits = []; count = 0; shown = 0 }
-obeyed Dial line p k = record { processor = p; state = Dialling; digits = digitsOf line; count = 0; shown = 0 }
+abbrev pub applied : Control → List ℕ → AtProcessor → Book → Book
+applied Nothing line p k = record { processor = p; state = k .state; digits = k .digits; count = k .count; shown = k .shown }
+applied Answer line p k = record { processor = p; state = Answering; digits = []; count = 0; shown = 0 }
+applied Hangup line p k = record { processor = p; state = Idle; digits = []; count = 0; shown = 0 }
+applied Dial line p k = record { processor = p; state = Dialling; digits = digitsOf line; count = 0; shown = 0 }
 
 -- ---- a fill of b samples in Dialling
 -- the shown stage is then that of sample count, or, with b = 0, that of sample count + 1
@@ -103,9 +103,9 @@ filledIn Answering r k b = k
 filledIn Connected r k b = k
 
 abbrev pub taken : ℕ → Book → Call → Book
-taken r k (typing byte carrier room) = obeyed (fedBy k byte carrier room .control) (afterAtdt (fedBy k byte carrier room)) (fedBy k byte carrier room .processor) k
-taken r k (time ns carrier) = obeyed (lapsedBy k ns carrier .control) [] (lapsedBy k ns carrier .processor) k
-taken r k forcing = obeyed Nothing [] (forcedData (k .processor)) k
+taken r k (typing byte carrier room) = applied (fedBy k byte carrier room .control) (afterAtdt (fedBy k byte carrier room)) (fedBy k byte carrier room .processor) k
+taken r k (time ns carrier) = applied (lapsedBy k ns carrier .control) [] (lapsedBy k ns carrier .processor) k
+taken r k forcing = applied Nothing [] (forcedData (k .processor)) k
 taken r k (filling b) = filledIn (k .state) r k b
 
 -- a call declined with 2, 3, 4 or 5 changes nothing in it

@@ -15,7 +15,7 @@ use Rattle.at.specs.At.{typedByte, sent, afterAtdt, lapse, forcedData, lineFull
 use Rattle.session.specs.declared.Session.{Session}
 use Rattle.session.specs.Session.{stateNumber, idle, filled, written, ringNumber}
 use Rattle.control.specs.Control.{heard, controlled}
-use Rattle.sound.specs.Sound.{rateOk}
+use Rattle.soundness.specs.Sound.{rateOk}
 use Rattle.set.specs.declared.Refusal.{Refusal}
 use Rattle.set.specs.declared.Refusal.the-variants.{Accepted, Rate, Outbox, Length, LineFull, Connected, Unsound}
 use Rattle.set.specs.declared.Set.{Set}

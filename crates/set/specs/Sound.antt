@@ -3,7 +3,7 @@
 use mathlib.Core.Bool.{Bool, _&&_}
 use lib.Dec.{leb}
 use Rattle.at.specs.Processor as processor
-use Rattle.sound.specs.Sound.{soundState}
+use Rattle.soundness.specs.Sound.{soundState}
 use Rattle.session.specs.Session.{digitsHeld}
 use Rattle.set.specs.declared.Set.{Set}
 

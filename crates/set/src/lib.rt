@@ -123,7 +123,7 @@ impl Set {
     pub fn new(rate: u32) -> Made
         ensures { λ r. ⌜ r ≡ made rate ⌝ }
     {
-        if sound::rate_ok(rate) {
+        if soundness::rate_ok(rate) {
             let set = fresh(rate);
             return Made {
                 set,
@@ -151,7 +151,7 @@ impl Set {
             return false;
         }
         let from: usize = 0;
-        sound::sound_state(stage, &keys[from..len], self.rate)
+        soundness::sound_state(stage, &keys[from..len], self.rate)
             & (processor.sound() & ((session.m <= MAX_SAMPLES) & (session.shown <= 9)))
     }
 
@@ -193,7 +193,7 @@ impl Set {
         let reply = fed.reply;
         let asked = fed.control;
         let line = fed.line;
-        let moved = control::obey(asked, session, line, self.rate);
+        let moved = control::apply(asked, session, line, self.rate);
         Typed {
             set: Set {
                 rate: self.rate,
@@ -232,7 +232,7 @@ impl Set {
         let reply = o.reply;
         let asked = o.control;
         let line = Line::new();
-        let moved = control::obey(asked, session, line, self.rate);
+        let moved = control::apply(asked, session, line, self.rate);
         Lapsed {
             set: Set {
                 rate: self.rate,

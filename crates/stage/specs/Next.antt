@@ -7,7 +7,7 @@ use lib.Ieee.{Float}
 use Rattle.math.specs.Float.{zero, one}
 use Rattle.nco.specs.declared.Nco.{Nco}
 use Rattle.frame.specs.Frame.{ciPayload, cmJmPayload, cjPayload, trainingPayload}
-use Rattle.schedule.specs.Time.{timeAt, samplesIn, oneMore}
+use Rattle.schedule.specs.Time.{timeAt, samplesIn, saturatingInc}
 use Rattle.schedule.specs.Ringback.{ringAt, ringTime, ringTone}
 use Rattle.schedule.specs.Ansam.{signAt}
 use Rattle.schedule.specs.Length.{clickTime, ringbackTime, ansamTime, cjSilence}
@@ -15,7 +15,7 @@ use Rattle.fsk.specs.declared.FskChannel.{FskChannel}
 use Rattle.fsk.specs.Channel.{channelSample, nextChannel}
 use Rattle.tones.specs.declared.Dial.{Dial}
 use Rattle.tones.specs.Samples.{shifted, clickSample}
-use Rattle.tones.specs.Mixed.{soundedOf, answerOf}
+use Rattle.tones.specs.Mixed.{gatedOf, answerOf}
 use Rattle.tones.specs.Dial.{dialStepOf}
 use Rattle.stage.specs.declared.Generated.{Generated}
 use Rattle.stage.specs.declared.StageState.{StageState}
@@ -28,15 +28,15 @@ unfoldable pub offHookOf : ℕ → ℕ → ℕ → Generated
 offHookOf rng n r =
     record {
       sample = clickSample (shifted rng) (timeAt r n);
-      state = OffHook (shifted rng) (oneMore n);
-      finished = leb (samplesIn clickTime r) (oneMore n);
+      state = OffHook (shifted rng) (saturatingInc n);
+      finished = leb (samplesIn clickTime r) (saturatingInc n);
     }
 
 -- 2
 unfoldable pub dialToneOf : Nco → Nco → ℕ → ℕ → Generated
 dialToneOf a b n r =
-    let p = soundedOf true a b in
-    record { sample = p .sample; state = DialTone (p .a) (p .b) (oneMore n); finished = leb (samplesIn one r) (oneMore n) }
+    let p = gatedOf true a b in
+    record { sample = p .sample; state = DialTone (p .a) (p .b) (saturatingInc n); finished = leb (samplesIn one r) (saturatingInc n) }
 
 -- 3
 abbrev pub dialState : Dial → ℕ → StageState
@@ -44,17 +44,17 @@ dialState dial n = Dialling (dial .digit) (dial .tone) (dial .a) (dial .b) n
 
 unfoldable pub diallingOf : Dial → ℕ → List ℕ → ℕ → Generated
 diallingOf dial n digits r =
-    let x = dialStepOf dial (oneMore n) digits r in
-    record { sample = x .sample; state = dialState (x .dial) (oneMore n); finished = x .finished }
+    let x = dialStepOf dial (saturatingInc n) digits r in
+    record { sample = x .sample; state = dialState (x .dial) (saturatingInc n); finished = x .finished }
 
 -- 4
 unfoldable pub ringbackOf : Nco → Nco → ℕ → ℕ → Generated
 ringbackOf a b n r =
-    let p = soundedOf (ringTone (ringTime (timeAt r n))) a b in
+    let p = gatedOf (ringTone (ringTime (timeAt r n))) a b in
     record {
       sample = p .sample;
-      state = Ringback (p .a) (p .b) (oneMore n) (ringAt (timeAt r n));
-      finished = leb (samplesIn ringbackTime r) (oneMore n);
+      state = Ringback (p .a) (p .b) (saturatingInc n) (ringAt (timeAt r n));
+      finished = leb (samplesIn ringbackTime r) (saturatingInc n);
     }
 
 -- 5
@@ -65,7 +65,7 @@ ciOf f = record { sample = channelSample f; state = Ci (nextChannel f ciPayload)
 unfoldable pub ansamOf : Nco → Nco → ℕ → ℕ → Generated
 ansamOf carrier env n r =
     let p = answerOf carrier env (signAt (timeAt r n)) in
-    record { sample = p .sample; state = Ansam (p .a) (p .b) (oneMore n); finished = leb (samplesIn ansamTime r) (oneMore n) }
+    record { sample = p .sample; state = Ansam (p .a) (p .b) (saturatingInc n); finished = leb (samplesIn ansamTime r) (saturatingInc n) }
 
 -- 7
 unfoldable pub cmJmOf : FskChannel → Generated
@@ -73,7 +73,7 @@ cmJmOf f = record { sample = channelSample f; state = CmJm (nextChannel f cmJmPa
 
 -- 8: its bits, and once all are done its zeros
 unfoldable pub cjAt : Bool → FskChannel → ℕ → ℕ → Generated
-cjAt true f z r = record { sample = zero; state = Cj f (oneMore z); finished = leb (samplesIn cjSilence r) (oneMore z) }
+cjAt true f z r = record { sample = zero; state = Cj f (saturatingInc z); finished = leb (samplesIn cjSilence r) (saturatingInc z) }
 cjAt false f z r = record { sample = channelSample f; state = Cj (nextChannel f cjPayload) z; finished = false }
 
 unfoldable pub cjOf : FskChannel → ℕ → ℕ → Generated

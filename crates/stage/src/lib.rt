@@ -135,7 +135,7 @@ fn off_hook(rng: u64, n: u32, rate: u32) -> Generated
     ensures { λ r. ⌜ r ≡ offHookOf rng n rate ⌝ }
 {
     let next = tones::shift(rng);
-    let m = schedule::one_more(n);
+    let m = schedule::saturating_inc(n);
     Generated {
         sample: tones::click_sample(next, schedule::seconds(n, rate)),
         state: StageState::OffHook { rng: next, n: m },
@@ -149,7 +149,7 @@ fn dial_tone(a: Nco, b: Nco, n: u32, rate: u32) -> Generated
     let p = tones::two_tones(a, b);
     let next_a = p.a;
     let next_b = p.b;
-    let m = schedule::one_more(n);
+    let m = schedule::saturating_inc(n);
     Generated {
         sample: p.sample,
         state: StageState::DialTone {
@@ -164,7 +164,7 @@ fn dial_tone(a: Nco, b: Nco, n: u32, rate: u32) -> Generated
 fn dialling(dial: Dial, n: u32, digits: &[u8], rate: u32) -> Generated
     ensures { λ r. ⌜ r ≡ diallingOf dial n (now (digits .entry)) rate ⌝ }
 {
-    let m = schedule::one_more(n);
+    let m = schedule::saturating_inc(n);
     let x = tones::dial_step(dial, m, digits, rate);
     let next = x.dial;
     let a = next.a;
@@ -186,10 +186,10 @@ fn ringback(a: Nco, b: Nco, n: u32, rate: u32) -> Generated
     ensures { λ r. ⌜ r ≡ ringbackOf a b n rate ⌝ }
 {
     let progress = schedule::ring_progress(schedule::seconds(n, rate));
-    let p = tones::sounded(schedule::ringback_gate(progress.time), a, b);
+    let p = tones::gated(schedule::ringback_gate(progress.time), a, b);
     let next_a = p.a;
     let next_b = p.b;
-    let m = schedule::one_more(n);
+    let m = schedule::saturating_inc(n);
     Generated {
         sample: p.sample,
         state: StageState::Ringback {
@@ -221,7 +221,7 @@ fn ansam(carrier: Nco, env: Nco, n: u32, rate: u32) -> Generated
     let p = tones::answer_tone(carrier, env, sign);
     let next_carrier = p.a;
     let next_env = p.b;
-    let m = schedule::one_more(n);
+    let m = schedule::saturating_inc(n);
     Generated {
         sample: p.sample,
         state: StageState::Ansam {
@@ -250,7 +250,7 @@ fn cj(fsk: FskChannel, silence: u32, rate: u32) -> Generated
     ensures { λ r. ⌜ r ≡ cjOf fsk silence rate ⌝ }
 {
     if fsk.done >= 60 {
-        let m = schedule::one_more(silence);
+        let m = schedule::saturating_inc(silence);
         return Generated {
             sample: 0.0,
             state: StageState::Cj { fsk, silence_n: m },

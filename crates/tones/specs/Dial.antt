@@ -16,7 +16,7 @@ use Rattle.tones.specs.declared.Mixed.{Mixed}
 use Rattle.tones.specs.declared.KeyTones.{KeyTones}
 use Rattle.tones.specs.declared.Dial.{Dial}
 use Rattle.tones.specs.declared.Dialled.{Dialled}
-use Rattle.tones.specs.Mixed.{soundedOf}
+use Rattle.tones.specs.Mixed.{gatedOf}
 
 -- a key's two frequencies; 1 Hz where there is no key
 abbrev pub tonesFor : Tones → KeyTones
@@ -59,7 +59,7 @@ dialledAt dial p t digits r =
 -- no digit at the position, as with d = 0, gives one 0.0
 abbrev pub dialledBy : Bool → Dial → ℕ → List ℕ → ℕ → Dialled
 dialledBy true dial n digits r = record { sample = zero; dial = dial; finished = true }
-dialledBy false dial n digits r = dialledAt dial (soundedOf (dial .tone) (dial .a) (dial .b)) (timeAt r n) digits r
+dialledBy false dial n digits r = dialledAt dial (gatedOf (dial .tone) (dial .a) (dial .b)) (timeAt r n) digits r
 
 unfoldable pub dialStepOf : Dial → ℕ → List ℕ → ℕ → Dialled
 dialStepOf dial n digits r = dialledBy (leb (length digits) (dial .digit)) dial n digits r

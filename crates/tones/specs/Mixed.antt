@@ -8,9 +8,9 @@ use Rattle.tones.specs.declared.Mixed.{Mixed}
 use Rattle.tones.specs.Samples.{mixed, ansamSample}
 
 -- 2, 3, 4: mixed, or resting in a gap
-unfoldable pub soundedOf : Bool → Nco → Nco → Mixed
-soundedOf true a b = record { sample = mixed (sampleOf a) (sampleOf b); a = steppedNco a; b = steppedNco b }
-soundedOf false a b = record { sample = zero; a = a; b = b }
+unfoldable pub gatedOf : Bool → Nco → Nco → Mixed
+gatedOf true a b = record { sample = mixed (sampleOf a) (sampleOf b); a = steppedNco a; b = steppedNco b }
+gatedOf false a b = record { sample = zero; a = a; b = b }
 
 -- 6
 unfoldable pub answerOf : Nco → Nco → Float → Mixed

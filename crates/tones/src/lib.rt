@@ -5,7 +5,7 @@ use nco::Nco;
 ghost use mathlib.Core.Path.{_≡_};
 ghost use mathlib.Core.Bool.{true};
 ghost use Rattle.tones.specs.Samples.{shifted, clickSample, mixed, ansamSample};
-ghost use Rattle.tones.specs.Mixed.{soundedOf, answerOf};
+ghost use Rattle.tones.specs.Mixed.{gatedOf, answerOf};
 ghost use Rattle.tones.specs.Dial.{tonesFor, digitTones, pairStays, takenOver, dialStepOf};
 
 const ANSAM_AM_DEPTH: f64 = 0.3;
@@ -77,7 +77,7 @@ pub fn ansam_sample(carrier: f64, env: f64, sign: f64) -> f64
 
 // Two oscillators mixed.
 pub fn two_tones(a: Nco, b: Nco) -> Mixed
-    ensures { λ r. ⌜ r ≡ soundedOf true a b ⌝ }
+    ensures { λ r. ⌜ r ≡ gatedOf true a b ⌝ }
 {
     let x = a.next();
     let y = b.next();
@@ -91,8 +91,8 @@ pub fn two_tones(a: Nco, b: Nco) -> Mixed
 }
 
 // The same in tone; in a gap they rest.
-pub fn sounded(on: bool, a: Nco, b: Nco) -> Mixed
-    ensures { λ r. ⌜ r ≡ soundedOf on a b ⌝ }
+pub fn gated(on: bool, a: Nco, b: Nco) -> Mixed
+    ensures { λ r. ⌜ r ≡ gatedOf on a b ⌝ }
 {
     if on {
         return two_tones(a, b);
@@ -175,7 +175,7 @@ pub fn dial_step(dial: Dial, n: u32, digits: &[u8], rate: u32) -> Dialled
     }
     let a = dial.a;
     let b = dial.b;
-    let p = sounded(tone, a, b);
+    let p = gated(tone, a, b);
     let next_a = p.a;
     let next_b = p.b;
     let phase = schedule::dialling_phase(schedule::seconds(n, rate));

@@ -3,7 +3,7 @@ use Prim.Native.Nat.{_-_}
 use mathlib.Core.Path.{refl}
 use mathlib.Core.Bool.{false}
 use native.Mathlib.Omega.{arith}
-use Rattle.tones.specs.Mixed.{soundedOf}
+use Rattle.tones.specs.Mixed.{gatedOf}
 use Rattle.overture.proofs.Writing.{rest-narrow}
 use Rattle.overture.proofs.Playing.{Playing, playing-start, playing-again, playing-full}
 use borrow.Author.Needs.{needs}
@@ -11,7 +11,7 @@ use Rattle.overture.proofs.play_rest.Statement.{statement}
 use Rattle.overture.proofs.play_rest.Tie as tie
 
 abbrev Inv-loop : tie.InvT-loop
-Inv-loop a b count out₀ i₀ out i = Playing (soundedOf false) count a b out₀ out a b i
+Inv-loop a b count out₀ i₀ out i = Playing (gatedOf false) count a b out₀ out a b i
 
 abbrev μ-loop : tie.MeasureT-loop
 μ-loop a b count out₀ i₀ out i = count - i
@@ -32,7 +32,7 @@ loop-less : tie.Need-loop-less Inv-loop μ-loop
 loop-less c = omega (arith, c .loop-test .taken)
 
 loop-again : tie.Need-loop-again Inv-loop μ-loop
-unfolding soundedOf
+unfolding gatedOf
 loop-again c =
     playing-again _ _ _ _ _ _ _ _ _ (c .before .loop .inv) (c .loop-test .taken) (omega (arith, c .loop-test .taken, c .before .before .pre, c .before .loop .inv .long)) _ _ _
     rest-narrow

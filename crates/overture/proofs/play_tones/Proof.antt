@@ -2,14 +2,14 @@
 use Prim.Native.Nat.{_-_}
 use mathlib.Core.Bool.{true}
 use native.Mathlib.Omega.{arith}
-use Rattle.tones.specs.Mixed.{soundedOf}
+use Rattle.tones.specs.Mixed.{gatedOf}
 use Rattle.overture.proofs.Playing.{Playing, playing-start, playing-again, playing-full}
 use borrow.Author.Needs.{needs}
 use Rattle.overture.proofs.play_tones.Statement.{statement}
 use Rattle.overture.proofs.play_tones.Tie as tie
 
 abbrev Inv-loop : tie.InvT-loop
-Inv-loop count out₀ x₀ y₀ i₀ out x y i = Playing (soundedOf true) count x₀ y₀ out₀ out x y i
+Inv-loop count out₀ x₀ y₀ i₀ out x y i = Playing (gatedOf true) count x₀ y₀ out₀ out x y i
 
 abbrev μ-loop : tie.MeasureT-loop
 μ-loop count out₀ x₀ y₀ i₀ out x y i = count - i

@@ -31,8 +31,8 @@ reversal-sign-requires c κs = search needs
 play-answer-requires : tie.Need-play-answer-requires
 play-answer-requires c κs = search needs
 
-count-on-requires : tie.Need-count-on-requires
-count-on-requires c κs = search needs
+saturating-add-requires : tie.Need-saturating-add-requires
+saturating-add-requires c κs = search needs
 
 cast-if2 : tie.Need-cast-if2
 cast-if2 c = search needs
@@ -51,7 +51,7 @@ returns-2 c =
     let s = o .before .before in
     let l = s .before .before .before in
     let e = l .before .before in
-    ansam-ran _ _ _ _ _ _ _ _ (l .samples-left .ensures) (k .count-on .ensures) _ _ _ _ _ _ _ _
+    ansam-ran _ _ _ _ _ _ _ _ (l .samples-left .ensures) (k .saturating-add .ensures) _ _ _ _ _ _ _ _
     (e .stage-samples-for .ensures)
     (s .before .seconds .ensures)
     (s .reversal-sign .ensures)
@@ -72,7 +72,7 @@ returns-3 c =
     let s = o .before .before in
     let l = s .before .before .before in
     let e = l .before .before in
-    ansam-ran _ _ _ _ _ _ _ _ (l .samples-left .ensures) (k .count-on .ensures) _ _ _ _ _ _ _ _
+    ansam-ran _ _ _ _ _ _ _ _ (l .samples-left .ensures) (k .saturating-add .ensures) _ _ _ _ _ _ _ _
     (e .stage-samples-for .ensures)
     (s .before .seconds .ensures)
     (s .reversal-sign .ensures)
@@ -93,7 +93,7 @@ write-ansam-spec =
     seconds-requires
     reversal-sign-requires
     play-answer-requires
-    count-on-requires
+    saturating-add-requires
     cast-if2
     enter-state-requires
     same-length

@@ -30,8 +30,8 @@ mul-out c = search needs
 slice-write-out : tie.Need-slice-write-out Inv-loop μ-loop
 slice-write-out c = search needs
 
-one-more-requires : tie.Need-one-more-requires Inv-loop μ-loop
-one-more-requires c κs = search needs
+saturating-inc-requires : tie.Need-saturating-inc-requires Inv-loop μ-loop
+saturating-inc-requires c κs = search needs
 
 add-i : tie.Need-add-i Inv-loop μ-loop
 add-i c = search needs
@@ -52,7 +52,7 @@ returns c =
     let h = o .before .before .before .before .before .before .pre in
     ended _ _ _ _ _ _ _ (o .before .before .loop .inv) (o .before .loop-test .taken) _ _
     (rw silence-sample rest-narrow)
-    (rw (silence-state, c .enter-state .ensures, ← o .one-more .ensures, ← o .before .before .before .stage-samples-for .ensures, le-leb _ _ (c .before .if1 .taken)))
+    (rw (silence-state, c .enter-state .ensures, ← o .saturating-inc .ensures, ← o .before .before .before .stage-samples-for .ensures, le-leb _ _ (c .before .if1 .taken)))
 
 loop-less : tie.Need-loop-less Inv-loop μ-loop
 loop-less c =
@@ -66,7 +66,7 @@ loop-again c =
     let h = o .before .before .before .before .before .before .pre in
     again _ _ _ _ _ _ _ (o .before .before .loop .inv) (o .before .loop-test .taken) _ _
     (rw silence-sample rest-narrow)
-    (rw (silence-state, ← o .one-more .ensures, ← o .before .before .before .stage-samples-for .ensures, lt-leb _ _ (c .if1 .left)))
+    (rw (silence-state, ← o .saturating-inc .ensures, ← o .before .before .before .stage-samples-for .ensures, lt-leb _ _ (c .if1 .left)))
     refl
 
 same-length-2 : tie.Need-same-length-2 Inv-loop μ-loop
@@ -85,7 +85,7 @@ write-cj-silence-spec =
     loop-holds
     mul-out
     slice-write-out
-    one-more-requires
+    saturating-inc-requires
     add-i
     cast-if1
     enter-state-requires

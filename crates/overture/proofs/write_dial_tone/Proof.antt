@@ -22,8 +22,8 @@ samples-left-requires c κs = search needs
 play-tones-requires : tie.Need-play-tones-requires
 play-tones-requires c κs = search needs
 
-count-on-requires : tie.Need-count-on-requires
-count-on-requires c κs = search needs
+saturating-add-requires : tie.Need-saturating-add-requires
+saturating-add-requires c κs = search needs
 
 cast-if2 : tie.Need-cast-if2
 cast-if2 c = search needs
@@ -40,7 +40,7 @@ returns-2 c =
     let k = c .before .before in
     let o = k .before .before .before .before .before in
     let l = o .before .before in
-    dial-tone-ran _ _ _ _ _ _ _ _ (l .samples-left .ensures) (k .count-on .ensures) _ _ _ _ _ _
+    dial-tone-ran _ _ _ _ _ _ _ _ (l .samples-left .ensures) (k .saturating-add .ensures) _ _ _ _ _ _
     (l .before .before .stage-samples-for .ensures)
     refl
     (o .play-tones .ensures)
@@ -57,7 +57,7 @@ returns-3 c =
     let k = c .before in
     let o = k .before .before .before .before .before in
     let l = o .before .before in
-    dial-tone-ran _ _ _ _ _ _ _ _ (l .samples-left .ensures) (k .count-on .ensures) _ _ _ _ _ _
+    dial-tone-ran _ _ _ _ _ _ _ _ (l .samples-left .ensures) (k .saturating-add .ensures) _ _ _ _ _ _
     (l .before .before .stage-samples-for .ensures)
     refl
     (o .play-tones .ensures)
@@ -73,7 +73,7 @@ write-dial-tone-spec =
     returns
     samples-left-requires
     play-tones-requires
-    count-on-requires
+    saturating-add-requires
     cast-if2
     enter-state-requires
     same-length

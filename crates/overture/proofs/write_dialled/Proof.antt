@@ -10,8 +10,8 @@ use Rattle.overture.proofs.write_dialled.Tie as tie
 returns : tie.Need-returns
 returns c = full _ _ _ _ _ _ _ (start _ _ _ _) (omega (arith, c .if1 .taken))
 
-one-more-requires : tie.Need-one-more-requires
-one-more-requires c κs = search needs
+saturating-inc-requires : tie.Need-saturating-inc-requires
+saturating-inc-requires c κs = search needs
 
 dial-step-requires : tie.Need-dial-step-requires
 dial-step-requires c κs = search needs
@@ -34,8 +34,8 @@ returns-2 c =
     let o = c .before .before in
     let d = o .before .before .before .before in
     ended _ _ _ _ _ _ 0 (start _ _ _ _) (omega (arith, d .before .before .if1 .left)) _ _
-    (rw (o .narrow .ensures, d .dial-step .ensures, d .before .one-more .ensures))
-    (rw (c .enter-state .ensures, ← d .before .one-more .ensures, ← d .dial-step .ensures, c .before .if2 .taken))
+    (rw (o .narrow .ensures, d .dial-step .ensures, d .before .saturating-inc .ensures))
+    (rw (c .enter-state .ensures, ← d .before .saturating-inc .ensures, ← d .dial-step .ensures, c .before .if2 .taken))
 
 same-length-2 : tie.Need-same-length-2
 same-length-2 c = search needs
@@ -46,15 +46,15 @@ returns-3 c =
     let o = c .before in
     let d = o .before .before .before .before in
     ended _ _ _ _ _ _ 0 (start _ _ _ _) (omega (arith, d .before .before .if1 .left)) _ _
-    (rw (o .narrow .ensures, d .dial-step .ensures, d .before .one-more .ensures))
-    (rw (← d .before .one-more .ensures, ← d .dial-step .ensures, c .if2 .left))
+    (rw (o .narrow .ensures, d .dial-step .ensures, d .before .saturating-inc .ensures))
+    (rw (← d .before .saturating-inc .ensures, ← d .dial-step .ensures, c .if2 .left))
 
 pub write-dialled-spec : {M : Type 1} → statement M
 write-dialled-spec =
     tie.close
     (tie.spec
     returns
-    one-more-requires
+    saturating-inc-requires
     dial-step-requires
     narrow-requires
     slice-write-out

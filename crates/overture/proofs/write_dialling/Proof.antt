@@ -7,11 +7,11 @@ use Rattle.overture.proofs.write_dialling.Tie as tie
 dialling-run-requires : tie.Need-dialling-run-requires
 dialling-run-requires c κs = search needs
 
-play-sounded-requires : tie.Need-play-sounded-requires
-play-sounded-requires c κs = search needs
+play-gated-requires : tie.Need-play-gated-requires
+play-gated-requires c κs = search needs
 
-count-on-requires : tie.Need-count-on-requires
-count-on-requires c κs = search needs
+saturating-add-requires : tie.Need-saturating-add-requires
+saturating-add-requires c κs = search needs
 
 same-length : tie.Need-same-length
 same-length c = search needs
@@ -20,7 +20,7 @@ returns : tie.Need-returns
 returns c =
     let o = c .before .before .before .before .before in
     let t = o .before .before .before .before in
-    dialling-wrote _ _ _ _ _ _ _ (t .before .dialling-run .ensures) (t .before .before .if1 .taken) _ _ _ _ _ (o .play-sounded .ensures) (t .if2 .taken) _ (c .count-on .ensures)
+    dialling-wrote _ _ _ _ _ _ _ (t .before .dialling-run .ensures) (t .before .before .if1 .taken) _ _ _ _ _ (o .play-gated .ensures) (t .if2 .taken) _ (c .saturating-add .ensures)
 
 write-dialled-requires : tie.Need-write-dialled-requires
 write-dialled-requires c κs = search needs
@@ -36,8 +36,8 @@ write-dialling-spec =
     tie.close
     (tie.spec
     dialling-run-requires
-    play-sounded-requires
-    count-on-requires
+    play-gated-requires
+    saturating-add-requires
     same-length
     returns
     write-dialled-requires

@@ -42,8 +42,8 @@ mul-out c = search needs
 slice-write-out : tie.Need-slice-write-out Inv-loop μ-loop
 slice-write-out c = search needs
 
-one-more-requires : tie.Need-one-more-requires Inv-loop μ-loop
-one-more-requires c κs = search needs
+saturating-inc-requires : tie.Need-saturating-inc-requires Inv-loop μ-loop
+saturating-inc-requires c κs = search needs
 
 add-i : tie.Need-add-i Inv-loop μ-loop
 add-i c = search needs
@@ -63,7 +63,7 @@ returns c =
     let o = c .before .before in
     ended _ _ _ _ _ _ _ (o .before .before .before .before .before .before .loop .inv) (o .before .before .before .before .before .loop-test .taken) _ _
     (rw (o .before .narrow .ensures, o .before .before .click-sample .ensures, o .before .before .before .seconds .ensures, o .before .before .before .before .shift .ensures))
-    (rw (c .enter-state .ensures, ← o .one-more .ensures, ← o .before .before .before .before .before .before .before .stage-samples-for .ensures, le-leb _ _ (c .before .if1 .taken)))
+    (rw (c .enter-state .ensures, ← o .saturating-inc .ensures, ← o .before .before .before .before .before .before .before .stage-samples-for .ensures, le-leb _ _ (c .before .if1 .taken)))
 
 loop-less : tie.Need-loop-less Inv-loop μ-loop
 loop-less c =
@@ -76,7 +76,7 @@ loop-again c =
     let o = c .before in
     again _ _ _ _ _ _ _ (o .before .before .before .before .before .before .loop .inv) (o .before .before .before .before .before .loop-test .taken) _ _
     (rw (o .before .narrow .ensures, o .before .before .click-sample .ensures, o .before .before .before .seconds .ensures, o .before .before .before .before .shift .ensures))
-    (rw (← o .one-more .ensures, ← o .before .before .before .before .before .before .before .stage-samples-for .ensures, lt-leb _ _ (c .if1 .left), o .before .before .before .before .shift .ensures))
+    (rw (← o .saturating-inc .ensures, ← o .before .before .before .before .before .before .before .stage-samples-for .ensures, lt-leb _ _ (c .if1 .left), o .before .before .before .before .shift .ensures))
     refl
 
 same-length-2 : tie.Need-same-length-2 Inv-loop μ-loop
@@ -99,7 +99,7 @@ write-off-hook-spec =
     narrow-requires
     mul-out
     slice-write-out
-    one-more-requires
+    saturating-inc-requires
     add-i
     cast-if1
     enter-state-requires

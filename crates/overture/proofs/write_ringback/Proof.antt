@@ -31,11 +31,11 @@ ring-progress-requires c κs = search needs
 ringback-gate-requires : tie.Need-ringback-gate-requires
 ringback-gate-requires c κs = search needs
 
-play-sounded-requires : tie.Need-play-sounded-requires
-play-sounded-requires c κs = search needs
+play-gated-requires : tie.Need-play-gated-requires
+play-gated-requires c κs = search needs
 
-count-on-requires : tie.Need-count-on-requires
-count-on-requires c κs = search needs
+saturating-add-requires : tie.Need-saturating-add-requires
+saturating-add-requires c κs = search needs
 
 cast-if2 : tie.Need-cast-if2
 cast-if2 c = search needs
@@ -55,14 +55,14 @@ returns-2 c =
     let s = g .before .before in
     let l = s .before .before in
     let e = l .before .before in
-    ringback-ran _ _ _ _ _ _ _ _ (l .samples-left .ensures) (k .count-on .ensures) _ _ _ _ _ _ _ _ _ _ _
+    ringback-ran _ _ _ _ _ _ _ _ (l .samples-left .ensures) (k .saturating-add .ensures) _ _ _ _ _ _ _ _ _ _ _
     (e .stage-samples-for .ensures)
     (s .seconds .ensures)
     (g .before .ring-progress .ensures .0)
     (g .before .ring-progress .ensures .1)
     (g .ringback-gate .ensures)
     (s .before .ring-run .ensures)
-    (o .play-sounded .ensures)
+    (o .play-gated .ensures)
     true
     (le-leb _ _ (c .before .if2 .taken))
     (c .enter-state .ensures)
@@ -79,14 +79,14 @@ returns-3 c =
     let s = g .before .before in
     let l = s .before .before in
     let e = l .before .before in
-    ringback-ran _ _ _ _ _ _ _ _ (l .samples-left .ensures) (k .count-on .ensures) _ _ _ _ _ _ _ _ _ _ _
+    ringback-ran _ _ _ _ _ _ _ _ (l .samples-left .ensures) (k .saturating-add .ensures) _ _ _ _ _ _ _ _ _ _ _
     (e .stage-samples-for .ensures)
     (s .seconds .ensures)
     (g .before .ring-progress .ensures .0)
     (g .before .ring-progress .ensures .1)
     (g .ringback-gate .ensures)
     (s .before .ring-run .ensures)
-    (o .play-sounded .ensures)
+    (o .play-gated .ensures)
     false
     (lt-leb _ _ (c .if2 .left))
     refl
@@ -102,8 +102,8 @@ write-ringback-spec =
     seconds-requires
     ring-progress-requires
     ringback-gate-requires
-    play-sounded-requires
-    count-on-requires
+    play-gated-requires
+    saturating-add-requires
     cast-if2
     enter-state-requires
     same-length

@@ -14,8 +14,8 @@ reversal-sign-requires c κs = search needs
 answer-tone-requires : tie.Need-answer-tone-requires
 answer-tone-requires c κs = search needs
 
-one-more-requires : tie.Need-one-more-requires
-one-more-requires c κs = search needs
+saturating-inc-requires : tie.Need-saturating-inc-requires
+saturating-inc-requires c κs = search needs
 
 cast-t12 : tie.Need-cast-t12
 cast-t12 c = search needs
@@ -25,7 +25,7 @@ stage-samples-for-requires c κs = search needs
 
 returns : tie.Need-returns
 unfolding ansamOf
-returns c = rw (c .stage-samples-for .ensures, c .before .one-more .ensures, c .before .before .before .before .answer-tone .ensures, c .before .before .before .before .before .reversal-sign .ensures, c .before .before .before .before .before .before .seconds .ensures, three)
+returns c = rw (c .stage-samples-for .ensures, c .before .saturating-inc .ensures, c .before .before .before .before .answer-tone .ensures, c .before .before .before .before .before .reversal-sign .ensures, c .before .before .before .before .before .before .seconds .ensures, three)
 
 pub ansam-spec : {M : Type 1} → statement M
 ansam-spec =
@@ -34,7 +34,7 @@ ansam-spec =
     seconds-requires
     reversal-sign-requires
     answer-tone-requires
-    one-more-requires
+    saturating-inc-requires
     cast-t12
     stage-samples-for-requires
     returns)

@@ -5,8 +5,8 @@ use borrow.Author.Needs.{needs}
 use Rattle.stage.proofs.cj.Statement.{statement}
 use Rattle.stage.proofs.cj.Tie as tie
 
-one-more-requires : tie.Need-one-more-requires
-one-more-requires c κs = search needs
+saturating-inc-requires : tie.Need-saturating-inc-requires
+saturating-inc-requires c κs = search needs
 
 cast-t10 : tie.Need-cast-t10
 cast-t10 c = search needs
@@ -16,7 +16,7 @@ stage-samples-for-requires c κs = search needs
 
 returns : tie.Need-returns
 unfolding cjOf cjAt
-returns c = rw (le-leb _ _ (c .before .before .if1 .taken), c .stage-samples-for .ensures, c .before .one-more .ensures)
+returns c = rw (le-leb _ _ (c .before .before .if1 .taken), c .stage-samples-for .ensures, c .before .saturating-inc .ensures)
 
 slice-aggregate-next-sample : tie.Need-slice-aggregate-next-sample
 slice-aggregate-next-sample c = search needs
@@ -32,7 +32,7 @@ pub cj-spec : {M : Type 1} → statement M
 cj-spec =
     tie.close
     (tie.spec
-    one-more-requires
+    saturating-inc-requires
     cast-t10
     stage-samples-for-requires
     returns

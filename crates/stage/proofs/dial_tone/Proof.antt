@@ -7,8 +7,8 @@ use Rattle.stage.proofs.dial_tone.Tie as tie
 two-tones-requires : tie.Need-two-tones-requires
 two-tones-requires c κs = search needs
 
-one-more-requires : tie.Need-one-more-requires
-one-more-requires c κs = search needs
+saturating-inc-requires : tie.Need-saturating-inc-requires
+saturating-inc-requires c κs = search needs
 
 cast-t10 : tie.Need-cast-t10
 cast-t10 c = search needs
@@ -18,9 +18,9 @@ stage-samples-for-requires c κs = search needs
 
 returns : tie.Need-returns
 unfolding dialToneOf
-returns c = rw (c .stage-samples-for .ensures, c .before .one-more .ensures, c .before .before .before .before .two-tones .ensures)
+returns c = rw (c .stage-samples-for .ensures, c .before .saturating-inc .ensures, c .before .before .before .before .two-tones .ensures)
 
 pub dial-tone-spec : {M : Type 1} → statement M
 dial-tone-spec =
     tie.close
-    (tie.spec two-tones-requires one-more-requires cast-t10 stage-samples-for-requires returns)
+    (tie.spec two-tones-requires saturating-inc-requires cast-t10 stage-samples-for-requires returns)

@@ -4,15 +4,15 @@ use borrow.Author.Needs.{needs}
 use Rattle.stage.proofs.dialling.Statement.{statement}
 use Rattle.stage.proofs.dialling.Tie as tie
 
-one-more-requires : tie.Need-one-more-requires
-one-more-requires c κs = search needs
+saturating-inc-requires : tie.Need-saturating-inc-requires
+saturating-inc-requires c κs = search needs
 
 dial-step-requires : tie.Need-dial-step-requires
 dial-step-requires c κs = search needs
 
 returns : tie.Need-returns
 unfolding diallingOf
-returns c = rw (c .before .before .before .dial-step .ensures, c .before .before .before .before .one-more .ensures)
+returns c = rw (c .before .before .before .dial-step .ensures, c .before .before .before .before .saturating-inc .ensures)
 
 pub dialling-spec : {M : Type 1} → statement M
-dialling-spec = tie.close (tie.spec one-more-requires dial-step-requires returns)
+dialling-spec = tie.close (tie.spec saturating-inc-requires dial-step-requires returns)

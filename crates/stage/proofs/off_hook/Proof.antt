@@ -7,8 +7,8 @@ use Rattle.stage.proofs.off_hook.Tie as tie
 shift-requires : tie.Need-shift-requires
 shift-requires c κs = search needs
 
-one-more-requires : tie.Need-one-more-requires
-one-more-requires c κs = search needs
+saturating-inc-requires : tie.Need-saturating-inc-requires
+saturating-inc-requires c κs = search needs
 
 seconds-requires : tie.Need-seconds-requires
 seconds-requires c κs = search needs
@@ -24,14 +24,14 @@ stage-samples-for-requires c κs = search needs
 
 returns : tie.Need-returns
 unfolding offHookOf
-returns c = rw (c .stage-samples-for .ensures, c .before .click-sample .ensures, c .before .before .seconds .ensures, c .before .before .before .one-more .ensures, c .before .before .before .before .shift .ensures)
+returns c = rw (c .stage-samples-for .ensures, c .before .click-sample .ensures, c .before .before .seconds .ensures, c .before .before .before .saturating-inc .ensures, c .before .before .before .before .shift .ensures)
 
 pub off-hook-spec : {M : Type 1} → statement M
 off-hook-spec =
     tie.close
     (tie.spec
     shift-requires
-    one-more-requires
+    saturating-inc-requires
     seconds-requires
     click-sample-requires
     cast-t9

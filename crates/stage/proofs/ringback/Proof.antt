@@ -14,11 +14,11 @@ ring-progress-requires c κs = search needs
 ringback-gate-requires : tie.Need-ringback-gate-requires
 ringback-gate-requires c κs = search needs
 
-sounded-requires : tie.Need-sounded-requires
-sounded-requires c κs = search needs
+gated-requires : tie.Need-gated-requires
+gated-requires c κs = search needs
 
-one-more-requires : tie.Need-one-more-requires
-one-more-requires c κs = search needs
+saturating-inc-requires : tie.Need-saturating-inc-requires
+saturating-inc-requires c κs = search needs
 
 cast-t13 : tie.Need-cast-t13
 cast-t13 c = search needs
@@ -28,7 +28,7 @@ stage-samples-for-requires c κs = search needs
 
 returns : tie.Need-returns
 unfolding ringbackOf
-returns c = rw (c .stage-samples-for .ensures, c .before .one-more .ensures, c .before .before .before .before .sounded .ensures, c .before .before .before .before .before .ringback-gate .ensures, c .before .before .before .before .before .before .ring-progress .ensures .0, c .before .before .before .before .before .before .ring-progress .ensures .1, c .before .before .before .before .before .before .before .seconds .ensures, four)
+returns c = rw (c .stage-samples-for .ensures, c .before .saturating-inc .ensures, c .before .before .before .before .gated .ensures, c .before .before .before .before .before .ringback-gate .ensures, c .before .before .before .before .before .before .ring-progress .ensures .0, c .before .before .before .before .before .before .ring-progress .ensures .1, c .before .before .before .before .before .before .before .seconds .ensures, four)
 
 pub ringback-spec : {M : Type 1} → statement M
 ringback-spec =
@@ -37,8 +37,8 @@ ringback-spec =
     seconds-requires
     ring-progress-requires
     ringback-gate-requires
-    sounded-requires
-    one-more-requires
+    gated-requires
+    saturating-inc-requires
     cast-t13
     stage-samples-for-requires
     returns)

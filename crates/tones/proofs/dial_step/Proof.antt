@@ -9,8 +9,8 @@ returns : tie.Need-returns
 unfolding dialStepOf
 returns c = rw (le-leb _ _ (c .if1 .taken))
 
-sounded-requires : tie.Need-sounded-requires
-sounded-requires c κs = search needs
+gated-requires : tie.Need-gated-requires
+gated-requires c κs = search needs
 
 seconds-requires : tie.Need-seconds-requires
 seconds-requires c κs = search needs
@@ -26,14 +26,14 @@ take-over-requires c κs = search needs
 
 returns-2 : tie.Need-returns-2
 unfolding dialStepOf
-returns-2 c = rw (lt-leb _ _ (c .before .before .before .before .before .before .before .before .before .if1 .left), c .take-over .ensures, c .before .pair-stays .ensures, c .before .before .dialling-phase .ensures .0, c .before .before .dialling-phase .ensures .1, c .before .before .before .seconds .ensures, c .before .before .before .before .before .before .sounded .ensures)
+returns-2 c = rw (lt-leb _ _ (c .before .before .before .before .before .before .before .before .before .if1 .left), c .take-over .ensures, c .before .pair-stays .ensures, c .before .before .dialling-phase .ensures .0, c .before .before .dialling-phase .ensures .1, c .before .before .before .seconds .ensures, c .before .before .before .before .before .before .gated .ensures)
 
 pub dial-step-spec : {M : Type 1} → statement M
 dial-step-spec =
     tie.close
     (tie.spec
     returns
-    sounded-requires
+    gated-requires
     seconds-requires
     dialling-phase-requires
     pair-stays-requires

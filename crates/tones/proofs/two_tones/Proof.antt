@@ -1,5 +1,5 @@
 -- `two_tones` meets its contract, by what `next` and `mix` ensure. Assumes nothing.
-use Rattle.tones.specs.Mixed.{soundedOf}
+use Rattle.tones.specs.Mixed.{gatedOf}
 use borrow.Author.Needs.{needs}
 use Rattle.tones.proofs.two_tones.Statement.{statement}
 use Rattle.tones.proofs.two_tones.Tie as tie
@@ -14,7 +14,7 @@ mix-requires : tie.Need-mix-requires
 mix-requires c κs = search needs
 
 returns : tie.Need-returns
-unfolding soundedOf
+unfolding gatedOf
 returns c = rw (c .mix .ensures, c .before .before .before .next2 .ensures .0, c .before .before .before .next2 .ensures .1, c .before .before .before .before .next .ensures .0, c .before .before .before .before .next .ensures .1)
 
 pub two-tones-spec : {M : Type 1} → statement M

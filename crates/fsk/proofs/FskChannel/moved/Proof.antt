@@ -10,8 +10,8 @@ moved-requires c κs = search needs
 tick-requires : tie.Need-tick-requires
 tick-requires c κs = search needs
 
-one-more-requires : tie.Need-one-more-requires
-one-more-requires c κs = search needs
+saturating-inc-requires : tie.Need-saturating-inc-requires
+saturating-inc-requires c κs = search needs
 
 cast-payload-bit : tie.Need-cast-payload-bit
 cast-payload-bit c = search needs
@@ -29,7 +29,7 @@ returns : tie.Need-returns
 unfolding nextChannel
 returns c =
     let tick = c .before .before .before .before .before in
-    rw (← tick .tick .ensures .1, c .before .before .before .before .if1 .taken, c .set-freq .ensures, c .before .tone .ensures, c .before .before .payload-bit .ensures, c .before .before .before .one-more .ensures, tick .before .moved .ensures, tick .tick .ensures .0)
+    rw (← tick .tick .ensures .1, c .before .before .before .before .if1 .taken, c .set-freq .ensures, c .before .tone .ensures, c .before .before .payload-bit .ensures, c .before .before .before .saturating-inc .ensures, tick .before .moved .ensures, tick .tick .ensures .0)
 
 returns-2 : tie.Need-returns-2
 unfolding nextChannel
@@ -43,7 +43,7 @@ moved-spec =
     (tie.spec
     moved-requires
     tick-requires
-    one-more-requires
+    saturating-inc-requires
     cast-payload-bit
     payload-bit-requires
     tone-requires

@@ -10,16 +10,16 @@ heard-in-requires c κs = search needs
 feed-requires : tie.Need-feed-requires
 feed-requires c κs = search needs
 
-obey-requires : tie.Need-obey-requires
-obey-requires c κs = search needs
+apply-requires : tie.Need-apply-requires
+apply-requires c κs = search needs
 
 same-length : tie.Need-same-length
 same-length c = search needs
 
 returns : tie.Need-returns
 unfolding heard
-returns c = (rw (c .obey .ensures, c .before .before .before .before .before .feed .ensures .0, c .before .before .before .before .before .before .before .heard-in .ensures), c .before .before .before .before .before .feed .ensures .1)
+returns c = (rw (c .apply .ensures, c .before .before .before .before .before .feed .ensures .0, c .before .before .before .before .before .before .before .heard-in .ensures), c .before .before .before .before .before .feed .ensures .1)
 
 pub take-byte-spec : {M : Type 1} → statement M
 take-byte-spec =
-    tie.close (tie.spec heard-in-requires feed-requires obey-requires same-length returns)
+    tie.close (tie.spec heard-in-requires feed-requires apply-requires same-length returns)

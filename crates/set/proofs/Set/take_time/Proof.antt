@@ -13,14 +13,14 @@ advance-time-requires c κs = search needs
 new-requires : tie.Need-new-requires
 new-requires c κs = search needs
 
-obey-requires : tie.Need-obey-requires
-obey-requires c κs = search needs
+apply-requires : tie.Need-apply-requires
+apply-requires c κs = search needs
 
 returns : tie.Need-returns
 unfolding heard
-returns c = rw (c .obey .ensures, c .before .new .ensures, c .before .before .before .advance-time .ensures, c .before .before .before .before .heard-in .ensures)
+returns c = rw (c .apply .ensures, c .before .new .ensures, c .before .before .before .advance-time .ensures, c .before .before .before .before .heard-in .ensures)
 
 pub take-time-spec : {M : Type 1} → statement M
 take-time-spec =
     tie.close
-    (tie.spec heard-in-requires advance-time-requires new-requires obey-requires returns)
+    (tie.spec heard-in-requires advance-time-requires new-requires apply-requires returns)

@@ -1,0 +1,20 @@
+-- `schedule::saturating_inc` meets its contract. Each arm returns what `countUp` picks, as the test found n. Assumes nothing.
+use borrow.Author.Needs.{needs}
+use borrow.Author.Tests.{lt-ltb, le-ltb}
+use Rattle.schedule.specs.Time.{saturatingInc}
+use Rattle.schedule.proofs.saturating_inc.Statement.{statement}
+use Rattle.schedule.proofs.saturating_inc.Tie as tie
+
+add-result : tie.Need-add-result
+add-result c = search needs
+
+returns : tie.Need-returns
+unfolding saturatingInc
+returns c = rw (lt-ltb _ _ (c .if1 .taken))
+
+returns-2 : tie.Need-returns-2
+unfolding saturatingInc
+returns-2 c = rw (le-ltb _ _ (c .if1 .left))
+
+pub saturating-inc-spec : {M : Type 1} → statement M
+saturating-inc-spec = tie.close (tie.spec add-result returns returns-2)

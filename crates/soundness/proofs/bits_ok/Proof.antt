@@ -1,0 +1,15 @@
+-- `bits_ok` meets its contract, by what its calls ensure. Assumes nothing.
+use Rattle.soundness.specs.Sound.{bitsOk}
+use borrow.Author.Needs.{needs}
+use Rattle.soundness.proofs.bits_ok.Statement.{statement}
+use Rattle.soundness.proofs.bits_ok.Tie as tie
+
+fsk-ok-requires : tie.Need-fsk-ok-requires
+fsk-ok-requires c κs = search needs
+
+returns : tie.Need-returns
+unfolding bitsOk
+returns c = rw (c .before .fsk-ok .ensures)
+
+pub bits-ok-spec : {M : Type 1} → statement M
+bits-ok-spec = tie.close (tie.spec fsk-ok-requires returns)
