@@ -72,7 +72,7 @@ module _ (digits : List ℕ) (r n : ℕ) where
         wrote (samplesIn one r) dialToneAt (gatedOf true) c early (λ x y j l. refl) (λ x y j l. refl) (λ x y u v j. refl) a b was is p P some x e
 
   -- ---- Ansam
-  module _ (most c : ℕ) (S : OneSign r n most c) (early : (j : ℕ) → suc j < c → counted (suc j) n < samplesIn ansamTime r) where
+  module _ (most c : ℕ) (S : OneSign r n most c) (some : 0 < c) (early : (j : ℕ) → suc j < c → counted (suc j) n < samplesIn ansamTime r) where
     abbrev ansamAt : Nco → Nco → ℕ → StageState
     ansamAt x y j = Ansam x y (counted j n)
 
@@ -92,10 +92,10 @@ module _ (digits : List ℕ) (r n : ℕ) where
         → WroteIs (Ansam a b n) digits r was is (record { state = x; written = c })
     unfolding counted stageOf
     ansam-wrote a b was is p P x e =
-        wrote (samplesIn ansamTime r) ansamAt (λ x y. answerOf x y (signAt (timeAt r n))) c early ansam-sample ansam-next (λ x y u v j. refl) a b was is p P (S .some) x e
+        wrote (samplesIn ansamTime r) ansamAt (λ x y. answerOf x y (signAt (timeAt r n))) c early ansam-sample ansam-next (λ x y u v j. refl) a b was is p P some x e
 
   -- ---- Ringback
-  module _ (most c z : ℕ) (S : OneGate r n most c) (early : (j : ℕ) → suc j < c → counted (suc j) n < samplesIn ringbackTime r) where
+  module _ (most c z : ℕ) (S : OneGate r n most c) (some : 0 < c) (early : (j : ℕ) → suc j < c → counted (suc j) n < samplesIn ringbackTime r) where
     abbrev on : Bool
     on = ringTone (ringTime (timeAt r n))
 
@@ -131,8 +131,8 @@ module _ (digits : List ℕ) (r n : ℕ) where
         → x ≡ onward (leb (samplesIn ringbackTime r) (counted c n)) (Ringback (p .a) (p .b) (counted c n) (ringAt (timeAt r n))) digits r
         → WroteIs (Ringback a b n z) digits r was is (record { state = x; written = c })
     ringback-wrote a b was is p P x e =
-        wrote (samplesIn ringbackTime r) ringsAt (gatedOf on) c early rings-sample rings-next rings-stage a b was is p P (S .some) x
-        (e ∙ ap (λ (t : StageState). onward (leb (samplesIn ringbackTime r) (counted c n)) t digits r) (sym (last-ring (p .a) (p .b) c (S .some))))
+        wrote (samplesIn ringbackTime r) ringsAt (gatedOf on) c early rings-sample rings-next rings-stage a b was is p P some x
+        (e ∙ ap (λ (t : StageState). onward (leb (samplesIn ringbackTime r) (counted c n)) t digits r) (sym (last-ring (p .a) (p .b) c some)))
 
   -- ---- Dialling, which does not end in a run
   module _ (digit : ℕ) (tone : Bool) (most c : ℕ) (K : OneKey r n digit tone most c) (some : digit < length digits) where
@@ -171,21 +171,21 @@ module _ (digits : List ℕ) (r n : ℕ) where
         rw e (P .wrote dialsAt digits r (record { sample = dials-sample; next = dials-next; stage = λ x y u v j l. refl }) h)
 
 -- ---- the same by what a writer has in hand
-module _ (digits : List ℕ) (r n end room left c k : ℕ) (B : Before n end room left) (ek : k ≡ counted c n) (a b : Nco) (was is : List Float) (p : Pair) (x : StageState) where
+module _ (digits : List ℕ) (r n end room left c k : ℕ) (h : 0 < room) (B : Before n end room left) (ek : k ≡ counted c n) (a b : Nco) (was is : List Float) (p : Pair) (x : StageState) where
   sooner : c ≤ left → (j : ℕ) → suc j < c → counted (suc j) n < end
   sooner h j l = B .early j (lt-of-lt-of-le l h)
 
   pub dial-tone-ran : end ≡ samplesIn one r → c ≡ left → PlayedIs (gatedOf true) c a b was is p → (t : Bool) → leb end k ≡ t
       → x ≡ onward t (DialTone (p .a) (p .b) k) digits r → WroteIs (DialTone a b n) digits r was is (record { state = x; written = c })
   dial-tone-ran ee ec P t et ex =
-      dial-tone-wrote digits r n c (λ j l. rw (← ee) (sooner (le-of-eq ec) j l)) a b was is p P (rw ec (B .some)) x (ex ∙ rw (← et, ek, ee))
+      dial-tone-wrote digits r n c (λ j l. rw (← ee) (sooner (le-of-eq ec) j l)) a b was is p P (rw ec (B .some h)) x (ex ∙ rw (← et, ek, ee))
 
   pub ansam-ran : (g u : Float) → end ≡ samplesIn (f64 0x4008_0000_0000_0000) r → u ≡ timeAt r n → g ≡ signAt u → OneSign r n left c
       → PlayedIs (λ x y. answerOf x y g) c a b was is p → (t : Bool) → leb end k ≡ t → x ≡ onward t (Ansam (p .a) (p .b) k) digits r
       → WroteIs (Ansam a b n) digits r was is (record { state = x; written = c })
   ansam-ran g u ee eu eg S P t et ex =
       let en : end ≡ samplesIn ansamTime r = ee ∙ ap (λ (d : Float). samplesIn d r) three in
-      ansam-wrote digits r n left c S (λ j l. rw (← en) (sooner (S .fits) j l)) a b was is p
+      ansam-wrote digits r n left c S (S .some (B .some h)) (λ j l. rw (← en) (sooner (S .fits) j l)) a b was is p
       (subst (λ (g : Float). PlayedIs (λ x y. answerOf x y g) c a b was is p) (eg ∙ ap signAt eu) P)
       x
       (ex ∙ rw (← et, ek, en))
@@ -195,7 +195,7 @@ module _ (digits : List ℕ) (r n end room left c k : ℕ) (B : Before n end roo
       → WroteIs (Ringback a b n z) digits r was is (record { state = x; written = c })
   ringback-ran z ρ on u v ee eu eρ ev eo S P t et ex =
       let en : end ≡ samplesIn ringbackTime r = ee ∙ ap (λ (d : Float). samplesIn d r) four in
-      ringback-wrote digits r n left c z S (λ j l. rw (← en) (sooner (S .fits) j l)) a b was is p
+      ringback-wrote digits r n left c z S (S .some (B .some h)) (λ j l. rw (← en) (sooner (S .fits) j l)) a b was is p
       (subst (λ (g : Bool). PlayedIs (gatedOf g) c a b was is p) (eo ∙ ap ringTone (ev ∙ ap ringTime eu)) P)
       x
       (ex ∙ rw (← et, ek, en, eρ, eu))

@@ -21,7 +21,9 @@ use Rattle.schedule.specs.Time.{timeAt}
 use Rattle.schedule.specs.Dialling.{digitAt, inTone}
 use Rattle.schedule.specs.Ansam.{reversal, signBy, signAt}
 use Rattle.schedule.specs.Ringback.{ringCycle, ringOn, ringOff, ringBy, ringTimeBy, ringAt, ringTime, ringTone}
-use Rattle.runs.specs.Runs.{counted, Before, OneSign, OneGate, OneKey, sameReversal, samePart, sameGate}
+use Rattle.runs.specs.declared.Clock.{Clock}
+use Rattle.runs.specs.declared.Clock.the-variants.{Reversals, Rings}
+use Rattle.runs.specs.Runs.{counted, Least, Before, OneKey, sameReversal, samePart, sameGate, sameOf, Alike, Run}
 use Rattle.schedule.proofs.Samples.{rate-value}
 use Rattle.schedule.proofs.Digits.{in-tone, in-gap}
 use Rattle.runs.proofs.Counted.{counted-is, counted-le}
@@ -240,41 +242,34 @@ module _ (r : ℕ) (lo : 8000 ≤ r) (hi : r ≤ 192000) where
               (subst (λ (b : Bool). samePart (ringTimeBy b (timeAt r n)) (ringTimeBy (le ringCycle (timeAt r m)) (timeAt r m)) ≡ true) (second-is n N) parts))),
         )
 
-  -- ---- the runs
-  module _ (n most c : ℕ) (N : n ≤ 0x4000_0000) (C : c ≤ 0x4000_0000) (some : 0 < c) (fits : c ≤ most) where
-    place : (j : ℕ) → j < c → counted j n ≡ n + j
-    place j l = counted-is j n (omega arith)
+  -- ---- a run
+  between : (clock : Clock) (n k m : ℕ) → n ≤ k → k ≤ m → m ≤ 2 ^ 32 → sameOf clock (timeAt r n) (timeAt r m) ≡ true → Alike clock (timeAt r k) (timeAt r n)
+  between Reversals = sign-between
+  between Rings = gate-between
 
-    pub one-sign : sameReversal (timeAt r n) (timeAt r (n + (c - 1))) ≡ true → OneSign r n most c
-    one-sign e = record {
-      some = some;
-      fits = fits;
-      sign = λ j l. rw (place j l) (sign-between n (n + j) (n + (c - 1)) (omega arith) (omega arith) (omega arith) e);
-    }
+  pub ends-agree : (clock : Clock) (n most c : ℕ) → n ≤ 0x4000_0000 → c ≤ 0x4000_0000 → (0 < most → 0 < c) → c ≤ most
+      → sameOf clock (timeAt r n) (timeAt r (n + (c - 1))) ≡ true → Run clock r n most c
+  ends-agree clock n most c N C some fits e = record {
+    some = some;
+    fits = fits;
+    alike = λ j l. rw (counted-is j n (omega arith)) (between clock n (n + j) (n + (c - 1)) (omega arith) (omega arith) (omega arith) e);
+  }
 
-    pub one-gate : sameGate (timeAt r n) (timeAt r (n + (c - 1))) ≡ true → OneGate r n most c
-    one-gate e = record {
-      some = some;
-      fits = fits;
-      ring = λ j l. rw (place j l) (gate-between n (n + j) (n + (c - 1)) (omega arith) (omega arith) (omega arith) e .0);
-      gate = λ j l. rw (place j l) (gate-between n (n + j) (n + (c - 1)) (omega arith) (omega arith) (omega arith) e .1);
-    }
+-- one sample is a run, and none is
+alike-itself : (clock : Clock) (t : Float) → Alike clock t t
+alike-itself Reversals t = refl
+alike-itself Rings t = (refl, refl)
 
--- one sample is a run
-module _ (r n most : ℕ) (h : 0 < most) where
-  only : (j : ℕ) → j < 1 → counted j n ≡ n
-  unfolding counted
-  only zero l = refl
-  only (suc j) l = absurd (no j l)
-    where
-      no : (j : ℕ) → suc j < 1 → ⊥
-      no j l = omega arith
+pub single : (clock : Clock) (r n most c : ℕ) → Least 1 most c → Run clock r n most c
+unfolding counted
+single clock r n most c L = record { some = L .some (lit< tt); fits = L .fits; alike = λ j l. rw (only j l) (alike-itself clock (timeAt r n)) }
+  where
+    no : (j : ℕ) → suc j < c → ⊥
+    no j l = omega (arith, L .few)
 
-  pub single-sign : OneSign r n most 1
-  single-sign = record { some = omega arith; fits = omega arith; sign = λ j l. rw (only j l) }
-
-  pub single-gate : OneGate r n most 1
-  single-gate = record { some = omega arith; fits = omega arith; ring = λ j l. rw (only j l); gate = λ j l. rw (only j l) }
+    only : (j : ℕ) → j < c → counted j n ≡ n
+    only zero l = refl
+    only (suc j) l = absurd (no j l)
 
 -- where runs are looked for
 pub record Limits (r n most : ℕ) : Type 0 where
@@ -291,18 +286,15 @@ limits r n most e =
     record { slow = leb-true _ _ slow; fast = leb-true _ _ fast; few = leb-true _ _ few; short = leb-true _ _ short }
 
 -- what is left of a stage
-module _ (n end most : ℕ) (h : 0 < most) where
-  pub before-end : n < end → end - n < most → Before n end most (end - n)
-  before-end l k = record { some = omega arith; fits = omega arith; early = λ j i. let m = counted-le (suc j) n in omega arith }
+module _ (n end most c : ℕ) where
+  pub before-end : n < end → Least (end - n) most c → Before n end most c
+  before-end l L = record { some = L .some (omega arith); fits = L .fits; early = λ j i. let m = counted-le (suc j) n in omega (arith, L .few) }
 
-  pub before-full : n < end → most ≤ end - n → Before n end most most
-  before-full l k = record { some = h; fits = omega arith; early = λ j i. let m = counted-le (suc j) n in omega arith }
-
-  pub before-last : Before n end most 1
-  before-last = record { some = omega arith; fits = omega arith; early = λ j i. absurd (no j i) }
+  pub before-last : Least 1 most c → Before n end most c
+  before-last L = record { some = L .some (lit< tt); fits = L .fits; early = λ j i. absurd (no j i) }
     where
-      no : (j : ℕ) → suc j < 1 → ⊥
-      no j l = omega arith
+      no : (j : ℕ) → suc j < c → ⊥
+      no j l = omega (arith, L .few)
 
 -- ---- Dialling: off the edges digit and tone are told by whole numbers
 module _ (r n i most c : ℕ) (L : Limits r n most) (I : i ≤ 75) (fits : c ≤ most) where

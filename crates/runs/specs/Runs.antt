@@ -11,27 +11,35 @@ use Rattle.schedule.specs.Time.{timeAt, saturatingInc}
 use Rattle.schedule.specs.Dialling.{digitAt, inTone}
 use Rattle.schedule.specs.Ringback.{ringOn, ringOff, ringAt, ringTime, ringTone}
 use Rattle.schedule.specs.Ansam.{reversal, signAt}
+use Rattle.runs.specs.declared.Clock.{Clock}
+use Rattle.runs.specs.declared.Clock.the-variants.{Reversals, Rings}
 
 -- the count after j samples more
 unfoldable pub counted : ℕ → ℕ → ℕ
 counted zero n = n
 counted (suc j) n = saturatingInc (counted j n)
 
--- c samples, of which none but the last brings the count to the end
+-- no more than c and than most, and something if they are
+pub record Least (c most r : ℕ) : Type 0 where
+  pub few : r ≤ c
+  pub fits : r ≤ most
+  pub some : 0 < c → 0 < most → 0 < r
+
+-- c samples, some if there is room, of which none but the last brings the count to the end
 pub record Before (n end most c : ℕ) : Type 0 where
-  pub some : 0 < c
+  pub some : 0 < most → 0 < c
   pub fits : c ≤ most
   pub early : (j : ℕ) → suc j < c → counted (suc j) n < end
 
--- c samples with the sign of the first
+-- c samples, some if there is room, with the sign of the first
 pub record OneSign (r n most c : ℕ) : Type 0 where
-  pub some : 0 < c
+  pub some : 0 < most → 0 < c
   pub fits : c ≤ most
   pub sign : (j : ℕ) → j < c → signAt (timeAt r (counted j n)) ≡ signAt (timeAt r n)
 
--- c samples of one ring, all of them in tone or all in a gap
+-- c samples, some if there is room, of one ring, all of them in tone or all in a gap
 pub record OneGate (r n most c : ℕ) : Type 0 where
-  pub some : 0 < c
+  pub some : 0 < most → 0 < c
   pub fits : c ≤ most
   pub ring : (j : ℕ) → j < c → ringAt (timeAt r (counted j n)) ≡ ringAt (timeAt r n)
   pub gate : (j : ℕ) → j < c → ringTone (ringTime (timeAt r (counted j n))) ≡ ringTone (ringTime (timeAt r n))
@@ -55,3 +63,19 @@ samePart u v =
 -- that, of the same ring
 unfoldable pub sameGate : Float → Float → Bool
 sameGate s t = eqb (ringAt s) (ringAt t) && samePart (ringTime s) (ringTime t)
+
+-- by the clock
+abbrev pub sameOf : Clock → Float → Float → Bool
+sameOf Reversals s t = sameReversal s t
+sameOf Rings s t = sameGate s t
+
+-- what a clock tells of two times is the same
+abbrev pub Alike : Clock → Float → Float → Type 0
+Alike Reversals s t = signAt s ≡ signAt t
+Alike Rings s t = (ringAt s ≡ ringAt t) × (ringTone (ringTime s) ≡ ringTone (ringTime t))
+
+-- c samples, some if there is room, of which a clock tells the same
+pub record Run (clock : Clock) (r n most c : ℕ) : Type 0 where
+  pub some : 0 < most → 0 < c
+  pub fits : c ≤ most
+  pub alike : (j : ℕ) → j < c → Alike clock (timeAt r (counted j n)) (timeAt r n)

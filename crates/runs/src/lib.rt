@@ -4,7 +4,7 @@ ghost use mathlib.Core.Path.{_≡_};
 ghost use mathlib.Core.Bool.{_&&_};
 ghost use Prim.Native.Nat.{ℕ, suc, _+_, _*_, _≤_, _<_};
 ghost use lib.Dec.{leb};
-ghost use Rattle.runs.specs.Runs.{counted, Before, OneSign, OneGate, OneKey, sameReversal, samePart, sameGate};
+ghost use Rattle.runs.specs.Runs.{counted, Least, Before, OneSign, OneGate, OneKey, sameReversal, samePart, sameGate, sameOf, Run};
 
 // Where runs are looked for: 01's rates, and counts far above any stage's.
 const MIN_RATE: u32 = 8_000;
@@ -24,20 +24,26 @@ pub fn saturating_add(n: u32, c: usize) -> u32
     0xffff_ffff
 }
 
-// How many samples are left of a stage that ends at a count, and of a buffer; one at least.
+fn at_most(c: u64, most: usize) -> usize
+    ensures { λ r. ⌜ Least c most r ⌝ }
+{
+    if c < most as u64 {
+        return c as usize;
+    }
+    most
+}
+
+// How many samples are left of a stage that ends at a count, and of a buffer: one at least, if the
+// buffer has room for it.
 pub fn samples_left(n: u32, end: u64, most: usize) -> usize
-    requires { ⌜ 0 < most ⌝ }
     ensures { λ c. ⌜ Before n end most c ⌝ }
 {
     let wide = n as u64;
     if wide < end {
         let left = end - wide;
-        if left < most as u64 {
-            return left as usize;
-        }
-        return most;
+        return at_most(left, most);
     }
-    1
+    at_most(1, most)
 }
 
 // Whether runs are looked for: elsewhere each sample is a run.
@@ -47,30 +53,16 @@ fn runs_known(n: u32, rate: u32, most: usize) -> bool
     ((rate >= MIN_RATE) & (rate <= MAX_RATE)) & ((n <= MAX_COUNT) & (most <= MAX_COUNT as usize))
 }
 
+// The two clocks that tell the same for long: ANSam's reversals, and the rings with their gaps.
+enum Clock {
+    Reversals,
+    Rings,
+}
+
 fn same_reversal(s: f64, t: f64) -> bool
     ensures { λ r. ⌜ r ≡ sameReversal s t ⌝ }
 {
     math::floor(s / schedule::ANSAM_REVERSAL_S) == math::floor(t / schedule::ANSAM_REVERSAL_S)
-}
-
-// A run of one sign: as many samples as there is room for, halved until its ends agree. A count of
-// reversals never falls, so what lies between agrees with them.
-pub fn reversal_run(n: u32, rate: u32, most: usize) -> usize
-    requires { ⌜ 0 < most ⌝ }
-    ensures { λ c. ⌜ OneSign rate n most c ⌝ }
-{
-    if runs_known(n, rate, most) {
-        let first = schedule::seconds(n, rate);
-        let mut c = most;
-        while c > 1 {
-            let last = n + (c - 1) as u32;
-            if same_reversal(first, schedule::seconds(last, rate)) {
-                return c;
-            }
-            c = c / 2;
-        }
-    }
-    1
 }
 
 fn same_part(u: f64, v: f64) -> bool
@@ -90,32 +82,46 @@ fn same_gate(s: f64, t: f64) -> bool
     (a.ring == b.ring) & same_part(a.time, b.time)
 }
 
-// A run of one ring in tone or in a gap, found likewise.
-pub fn ring_run(n: u32, rate: u32, most: usize) -> usize
-    requires { ⌜ 0 < most ⌝ }
-    ensures { λ c. ⌜ OneGate rate n most c ⌝ }
+fn same(clock: Clock, s: f64, t: f64) -> bool
+    ensures { λ r. ⌜ r ≡ sameOf clock s t ⌝ }
+{
+    match clock {
+        Clock::Reversals => same_reversal(s, t),
+        Clock::Rings => same_gate(s, t),
+    }
+}
+
+// As many samples as there is room for, halved until their ends agree. Neither clock goes back, so
+// what lies between agrees with them.
+fn run(clock: Clock, n: u32, rate: u32, most: usize) -> usize
+    ensures { λ c. ⌜ Run clock rate n most c ⌝ }
 {
     if runs_known(n, rate, most) {
         let first = schedule::seconds(n, rate);
         let mut c = most;
         while c > 1 {
             let last = n + (c - 1) as u32;
-            if same_gate(first, schedule::seconds(last, rate)) {
+            if same(clock, first, schedule::seconds(last, rate)) {
                 return c;
             }
             c = c / 2;
         }
     }
-    1
+    at_most(1, most)
 }
 
-fn at_most(c: u64, most: usize) -> usize
-    ensures { λ r. ⌜ (r ≤ c) × (r ≤ most) ⌝ }
+// A run of one sign.
+pub fn reversal_run(n: u32, rate: u32, most: usize) -> usize
+    ensures { λ c. ⌜ OneSign rate n most c ⌝ }
 {
-    if c < most as u64 {
-        return c as usize;
-    }
-    most
+    run(Clock::Reversals, n, rate, most)
+}
+
+// A run of one ring in tone or in a gap.
+pub fn ring_run(n: u32, rate: u32, most: usize) -> usize
+    ensures { λ c. ⌜ OneGate rate n most c ⌝ }
+{
+    run(Clock::Rings, n, rate, most)
 }
 
 // How many samples after the count n lie between two edges for sure, none of them on one. Edges are in tenths of a sample, so that a digit's

@@ -51,7 +51,7 @@ returns-2 c =
     let s = o .before .before in
     let l = s .before .before .before in
     let e = l .before .before in
-    ansam-ran _ _ _ _ _ _ _ _ (l .samples-left .ensures) (k .saturating-add .ensures) _ _ _ _ _ _ _ _
+    ansam-ran _ _ _ _ _ _ _ _ (omega (arith, l .before .if1 .left)) (l .samples-left .ensures) (k .saturating-add .ensures) _ _ _ _ _ _ _ _
     (e .stage-samples-for .ensures)
     (s .before .seconds .ensures)
     (s .reversal-sign .ensures)
@@ -72,7 +72,7 @@ returns-3 c =
     let s = o .before .before in
     let l = s .before .before .before in
     let e = l .before .before in
-    ansam-ran _ _ _ _ _ _ _ _ (l .samples-left .ensures) (k .saturating-add .ensures) _ _ _ _ _ _ _ _
+    ansam-ran _ _ _ _ _ _ _ _ (omega (arith, l .before .if1 .left)) (l .samples-left .ensures) (k .saturating-add .ensures) _ _ _ _ _ _ _ _
     (e .stage-samples-for .ensures)
     (s .before .seconds .ensures)
     (s .reversal-sign .ensures)

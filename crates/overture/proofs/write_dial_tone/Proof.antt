@@ -40,7 +40,7 @@ returns-2 c =
     let k = c .before .before in
     let o = k .before .before .before .before .before in
     let l = o .before .before in
-    dial-tone-ran _ _ _ _ _ _ _ _ (l .samples-left .ensures) (k .saturating-add .ensures) _ _ _ _ _ _
+    dial-tone-ran _ _ _ _ _ _ _ _ (omega (arith, l .before .if1 .left)) (l .samples-left .ensures) (k .saturating-add .ensures) _ _ _ _ _ _
     (l .before .before .stage-samples-for .ensures)
     refl
     (o .play-tones .ensures)
@@ -57,7 +57,7 @@ returns-3 c =
     let k = c .before in
     let o = k .before .before .before .before .before in
     let l = o .before .before in
-    dial-tone-ran _ _ _ _ _ _ _ _ (l .samples-left .ensures) (k .saturating-add .ensures) _ _ _ _ _ _
+    dial-tone-ran _ _ _ _ _ _ _ _ (omega (arith, l .before .if1 .left)) (l .samples-left .ensures) (k .saturating-add .ensures) _ _ _ _ _ _
     (l .before .before .stage-samples-for .ensures)
     refl
     (o .play-tones .ensures)

@@ -55,7 +55,7 @@ returns-2 c =
     let s = g .before .before in
     let l = s .before .before in
     let e = l .before .before in
-    ringback-ran _ _ _ _ _ _ _ _ (l .samples-left .ensures) (k .saturating-add .ensures) _ _ _ _ _ _ _ _ _ _ _
+    ringback-ran _ _ _ _ _ _ _ _ (omega (arith, l .before .if1 .left)) (l .samples-left .ensures) (k .saturating-add .ensures) _ _ _ _ _ _ _ _ _ _ _
     (e .stage-samples-for .ensures)
     (s .seconds .ensures)
     (g .before .ring-progress .ensures .0)
@@ -79,7 +79,7 @@ returns-3 c =
     let s = g .before .before in
     let l = s .before .before in
     let e = l .before .before in
-    ringback-ran _ _ _ _ _ _ _ _ (l .samples-left .ensures) (k .saturating-add .ensures) _ _ _ _ _ _ _ _ _ _ _
+    ringback-ran _ _ _ _ _ _ _ _ (omega (arith, l .before .if1 .left)) (l .samples-left .ensures) (k .saturating-add .ensures) _ _ _ _ _ _ _ _ _ _ _
     (e .stage-samples-for .ensures)
     (s .seconds .ensures)
     (g .before .ring-progress .ensures .0)

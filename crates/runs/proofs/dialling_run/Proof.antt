@@ -39,7 +39,7 @@ at-most-requires c κs = search needs
 returns-2 : tie.Need-returns-2
 returns-2 c =
     let t = c .before .before in
-    rw (t .if3 .taken) (one-tone _ _ _ _ _ (known (t .before)) (t .before .before .before .if1 .left) (c .at-most .ensures .1) (λ j l. c .before .run-between .ensures j (lt-of-lt-of-le l (c .at-most .ensures .0))))
+    rw (t .if3 .taken) (one-tone _ _ _ _ _ (known (t .before)) (t .before .before .before .if1 .left) (c .at-most .ensures .fits) (λ j l. c .before .run-between .ensures j (lt-of-lt-of-le l (c .at-most .ensures .few))))
 
 add-end : tie.Need-add-end
 add-end c = omega (arith, small (c .before), known (c .before) .fast)
@@ -53,7 +53,7 @@ at-most-requires-2 c κs = search needs
 returns-3 : tie.Need-returns-3
 returns-3 c =
     let t = c .before .before in
-    rw (t .if3 .left) (one-gap _ _ _ _ _ (known (t .before)) (t .before .before .before .if1 .left) (c .at-most2 .ensures .1) (λ j l. c .before .run-between2 .ensures j (lt-of-lt-of-le l (c .at-most2 .ensures .0))))
+    rw (t .if3 .left) (one-gap _ _ _ _ _ (known (t .before)) (t .before .before .before .if1 .left) (c .at-most2 .ensures .fits) (λ j l. c .before .run-between2 .ensures j (lt-of-lt-of-le l (c .at-most2 .ensures .few))))
 
 returns-4 : tie.Need-returns-4
 returns-4 c = no-key _ _ _ _ _
