@@ -13,7 +13,7 @@ use lib.ListN.{length}
 use borrow.Author.Tests.{eqb-true, ltb-false, eq-eqb, ne-eqb, le-leb}
 use Rattle.keys.specs.Keys.{allKeys, digitsOf}
 use Rattle.keys.proofs.Line.{all-digits, digits-fewer, padded-front}
-use Rattle.stage.specs.Stage.{stageOf, stageNumber}
+use Rattle.stage.specs.Stage.{stageNumber}
 use Rattle.overture.specs.Iteration.{fresh, after, samples}
 use Rattle.overture.proofs.Iteration.{samples-add}
 use Rattle.passage.specs.Overture.{HasLength}
@@ -134,7 +134,7 @@ module _ (r : ℕ) where
           ten n e l = omega arith
 
       before-end : (i : ℕ) → eqb (stageOfSample digits r (suc i)) 10 ≡ false → i < lengthOf digits r
-      unfolding stageOfSample stageNumber stageOf
+      unfolding stageOfSample
       before-end i e =
           lt-of-not-le
           (λ (l : lengthOf digits r ≤ i).

@@ -64,7 +64,7 @@ sounds i l = ne-eqb _ 10 (ten _ (long .sounding i l))
     ten n h e = omega arith
 
 ends : eqb (stageOfSample (ascii "12") 8000 (suc T)) 10 ≡ true
-unfolding stageOfSample stageNumber
+unfolding stageOfSample
 ends = eq-eqb _ 10 (ap stageNumber (connected-exactly (ascii "12") 8000 T long T .1 (omega arith)))
 
 -- a book in the state, with 12 noted, and `count` samples written

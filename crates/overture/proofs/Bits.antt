@@ -15,7 +15,7 @@ use Rattle.fsk.specs.Channel.{channelSample, nextChannel}
 use Rattle.stage.specs.declared.Stage.the-variants as stage
 use Rattle.stage.specs.declared.StageState.{StageState}
 use Rattle.stage.specs.declared.StageState.the-variants.{Ci, CmJm, Cj, Training}
-use Rattle.stage.specs.Stage.{stageOf, nextStage}
+use Rattle.stage.specs.Stage.{stageOf}
 use Rattle.stage.specs.Enter.{enterOf}
 use Rattle.stage.specs.Next.{sampleNext, stateNext, onward, generateOf, ciOf, cmJmOf, cjOf, cjAt, trainingOf}
 use Rattle.overture.specs.Writers.{Sends}
@@ -37,20 +37,20 @@ module _ (digits : List ℕ) (r : ℕ) where
     }
 
   pub ci-sends : Sends Ci (λ f. enterOf stage.Ansam digits r) (λ f. true) ciPayload 60 digits r
-  unfolding sampleNext stateNext generateOf ciOf stageOf nextStage
+  unfolding sampleNext stateNext generateOf ciOf
   ci-sends = bits-send Ci _ ciPayload 60 (λ f g. refl) (λ f. refl) (λ f. refl) (λ f. refl)
 
   pub cm-jm-sends : Sends CmJm (λ f. enterOf stage.Cj digits r) (λ f. true) cmJmPayload 80 digits r
-  unfolding sampleNext stateNext generateOf cmJmOf stageOf nextStage
+  unfolding sampleNext stateNext generateOf cmJmOf
   cm-jm-sends = bits-send CmJm _ cmJmPayload 80 (λ f g. refl) (λ f. refl) (λ f. refl) (λ f. refl)
 
   pub training-sends : Sends Training (λ f. enterOf stage.Connected digits r) (λ f. true) trainingPayload 300 digits r
-  unfolding sampleNext stateNext generateOf trainingOf stageOf nextStage
+  unfolding sampleNext stateNext generateOf trainingOf
   training-sends = bits-send Training _ trainingPayload 300 (λ f g. refl) (λ f. refl) (λ f. refl) (λ f. refl)
 
   -- Cj does not end with its bits
   pub cj-sends : (z : ℕ) → Sends (λ f. Cj f z) (λ f. Cj f z) (λ f. ltb (f .done) 60) cjPayload 60 digits r
-  unfolding sampleNext stateNext generateOf cjOf cjAt stageOf
+  unfolding sampleNext stateNext generateOf cjOf cjAt
   cj-sends z = record {
     stage = λ f g. refl;
     sample = λ f e. ap (λ (b : Bool). cjAt b f z r .sample) (left f e);

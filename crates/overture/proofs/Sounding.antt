@@ -67,7 +67,7 @@ module _ (digits : List ℕ) (r n : ℕ) where
     dial-tone-wrote : (a b : Nco) (was is : List Float) (p : Pair) → PlayedIs (gatedOf true) c a b was is p → 0 < c → (x : StageState)
         → x ≡ onward (leb (samplesIn one r) (counted c n)) (DialTone (p .a) (p .b) (counted c n)) digits r
         → WroteIs (DialTone a b n) digits r was is (record { state = x; written = c })
-    unfolding counted stageOf sampleNext stateNext generateOf dialToneOf
+    unfolding counted sampleNext stateNext generateOf dialToneOf
     dial-tone-wrote a b was is p P some x e =
         wrote (samplesIn one r) dialToneAt (gatedOf true) c early (λ x y j l. refl) (λ x y j l. refl) (λ x y u v j. refl) a b was is p P some x e
 
@@ -90,7 +90,7 @@ module _ (digits : List ℕ) (r n : ℕ) where
     ansam-wrote : (a b : Nco) (was is : List Float) (p : Pair) → PlayedIs (λ x y. answerOf x y (signAt (timeAt r n))) c a b was is p → (x : StageState)
         → x ≡ onward (leb (samplesIn ansamTime r) (counted c n)) (Ansam (p .a) (p .b) (counted c n)) digits r
         → WroteIs (Ansam a b n) digits r was is (record { state = x; written = c })
-    unfolding counted stageOf
+    unfolding counted
     ansam-wrote a b was is p P x e =
         wrote (samplesIn ansamTime r) ansamAt (λ x y. answerOf x y (signAt (timeAt r n))) c early ansam-sample ansam-next (λ x y u v j. refl) a b was is p P some x e
 
@@ -119,7 +119,6 @@ module _ (digits : List ℕ) (r n : ℕ) where
         ∙ ap (λ (q : ℕ). onward (leb (samplesIn ringbackTime r) (saturatingInc (counted (suc j) n))) (Ringback (gatedOf on x y .a) (gatedOf on x y .b) (saturatingInc (counted (suc j) n)) q) digits r) (S .ring (suc j) l)
 
     rings-stage : (x y u v : Nco) (j : ℕ) → stageOf (ringsAt x y j) ≡ stageOf (ringsAt u v 0)
-    unfolding stageOf
     rings-stage x y u v zero = refl
     rings-stage x y u v (suc j) = refl
 
@@ -166,7 +165,7 @@ module _ (digits : List ℕ) (r n : ℕ) where
 
     pub dialling-wrote : (a b : Nco) (was is : List Float) (p : Pair) → PlayedIs (gatedOf tone) c a b was is p → 0 < c → (k : ℕ) → k ≡ counted c n
         → WroteIs (Dialling digit tone a b n) digits r was is (record { state = Dialling digit tone (p .a) (p .b) k; written = c })
-    unfolding counted stageOf
+    unfolding counted
     dialling-wrote a b was is p P h k e =
         rw e (P .wrote dialsAt digits r (record { sample = dials-sample; next = dials-next; stage = λ x y u v j l. refl }) h)
 

@@ -94,15 +94,15 @@ module _ (digits : List ℕ) (r : ℕ) (lo : 8000 ≤ r) (hi : r ≤ 192000) whe
     bits-pass = passes digits r k (Keys state payload r) (bitsAfter r) N (bitsLength r N) course (bits-end r lo hi N B) (state (freshChannel payload r)) refl
 
   pub ci-passes : Passes digits r (enterOf stage.Ci digits r) stage.Ci (Keys Ci ciPayload r) (bitsLength r 60) (enterOf stage.Ansam digits r)
-  unfolding enterOf nextStage stageOf generateOf ciOf
+  unfolding enterOf generateOf ciOf
   ci-passes = bits-pass ciPayload 60 (lit≤ tt) stage.Ci Ci (λ f. refl) (λ f. refl) (λ f. refl)
 
   pub cm-jm-passes : Passes digits r (enterOf stage.CmJm digits r) stage.CmJm (Keys CmJm cmJmPayload r) (bitsLength r 80) (enterOf stage.Cj digits r)
-  unfolding enterOf nextStage stageOf generateOf cmJmOf
+  unfolding enterOf generateOf cmJmOf
   cm-jm-passes = bits-pass cmJmPayload 80 (lit≤ tt) stage.CmJm CmJm (λ f. refl) (λ f. refl) (λ f. refl)
 
   pub training-passes : Passes digits r (enterOf stage.Training digits r) stage.Training (Keys Training trainingPayload r) (bitsLength r 300) (enterOf stage.Connected digits r)
-  unfolding enterOf nextStage stageOf generateOf trainingOf
+  unfolding enterOf generateOf trainingOf
   training-passes = bits-pass trainingPayload 300 (lit≤ tt) stage.Training Training (λ f. refl) (λ f. refl) (λ f. refl)
 
   -- ---- Cj: its bits, of which none ends the stage, and then its zeros
@@ -122,11 +122,10 @@ module _ (digits : List ℕ) (r : ℕ) (lo : 8000 ≤ r) (hi : r ≤ 192000) whe
   cj-done = channelAfter cjPayload r (bitsLength r 60)
 
   cj-bits : Lasts digits r (enterOf stage.Cj digits r) stage.Cj (bitsLength r 60) (Cj cj-done 0)
-  unfolding stageOf
   cj-bits = record { stays = λ j l. ap stageOf (cj-channel-is j (le-of-lt l)); ends = cj-channel-is (bitsLength r 60) (le-refl _) }
 
   cj-zeros : (f : FskChannel) → 60 ≤ f .done → Lasts digits r (Cj f 0) stage.Cj (samplesIn cjSilence r) (enterOf stage.Training digits r)
-  unfolding nextStage stageOf generateOf cjOf cjAt
+  unfolding generateOf cjOf cjAt
   cj-zeros f h =
       let range = silence-range r lo hi in
       let done = le-leb 60 (f .done) h in

@@ -42,7 +42,6 @@ module _ (digits : List ℕ) (r : ℕ) where
   -- ---- an overture of the length T
   module _ (T : ℕ) (h : HasLength digits r T) where
     pub connected-exactly : (k : ℕ) → (stageOf (after k (fresh digits r) digits r) ≡ stage.Connected) ↔ (T ≤ k)
-    unfolding stageOf stageNumber
     connected-exactly k = (from, up)
       where
         ten : (n : ℕ) → n ≡ 10 → n ≤ 9 → ⊥

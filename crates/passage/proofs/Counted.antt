@@ -65,21 +65,21 @@ ansam x n = Ansam (x .0) (x .1) n
 
 module _ (digits : List ℕ) (r : ℕ) (lo : 8000 ≤ r) (hi : r ≤ 192000) where
   pub off-hook-passes : Passes digits r (enterOf stage.OffHook digits r) stage.OffHook (Counts offHook) (samplesIn clickTime r) (enterOf stage.DialTone digits r)
-  unfolding enterOf nextStage stageOf generateOf offHookOf
+  unfolding enterOf generateOf offHookOf
   off-hook-passes =
       let range = click-range r lo hi in
       counted digits r stage.OffHook (samplesIn clickTime r) (range .0) (le-trans (range .1) (lit≤ tt)) offHook (λ rng n. shifted rng)
       (λ rng n. refl) (λ rng n. refl) (λ rng n. refl) _
 
   pub dial-tone-passes : Passes digits r (enterOf stage.DialTone digits r) stage.DialTone (Counts dialTone) (samplesIn one r) (enterOf stage.Dialling digits r)
-  unfolding enterOf nextStage stageOf generateOf dialToneOf gatedOf
+  unfolding enterOf generateOf dialToneOf gatedOf
   dial-tone-passes =
       let range = dial-tone-range r lo hi in
       counted digits r stage.DialTone (samplesIn one r) (range .0) (le-trans (range .1) (lit≤ tt)) dialTone (λ x n. (steppedNco (x .0), steppedNco (x .1)))
       (λ x n. refl) (λ x n. refl) (λ x n. refl) (_, _)
 
   pub ringback-passes : Passes digits r (enterOf stage.Ringback digits r) stage.Ringback (Counts ringback) (samplesIn ringbackTime r) (enterOf stage.Ci digits r)
-  unfolding enterOf nextStage stageOf generateOf ringbackOf
+  unfolding enterOf generateOf ringbackOf
   ringback-passes =
       let range = ringback-range r lo hi in
       let gated : Nco × Nco × ℕ → ℕ → Mixed = λ x n. gatedOf (ringTone (ringTime (timeAt r n))) (x .0) (x .1) in
@@ -87,7 +87,7 @@ module _ (digits : List ℕ) (r : ℕ) (lo : 8000 ≤ r) (hi : r ≤ 192000) whe
       (λ x n. refl) (λ x n. refl) (λ x n. refl) (_, _, _)
 
   pub ansam-passes : Passes digits r (enterOf stage.Ansam digits r) stage.Ansam (Counts ansam) (samplesIn ansamTime r) (enterOf stage.CmJm digits r)
-  unfolding enterOf nextStage stageOf generateOf ansamOf answerOf
+  unfolding enterOf generateOf ansamOf answerOf
   ansam-passes =
       let range = ansam-range r lo hi in
       counted digits r stage.Ansam (samplesIn ansamTime r) (range .0) (le-trans (range .1) (lit≤ tt)) ansam (λ x n. (steppedNco (x .0), steppedNco (x .1)))

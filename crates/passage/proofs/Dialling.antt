@@ -27,7 +27,7 @@ use Rattle.tones.specs.declared.Dial.{Dial}
 use Rattle.stage.specs.declared.Stage.the-variants as stage
 use Rattle.stage.specs.declared.StageState.{StageState}
 use Rattle.stage.specs.declared.StageState.the-variants.{Dialling}
-use Rattle.stage.specs.Stage.{nextStage, stageOf}
+use Rattle.stage.specs.Stage.{stageOf}
 use Rattle.stage.specs.Enter.{enterOf}
 use Rattle.stage.specs.Next.{dialState, diallingOf, generateOf, stateNext}
 use Rattle.tones.specs.Mixed.{gatedOf}
@@ -131,7 +131,7 @@ module _ (digits : List ℕ) (r : ℕ) (lo : 8000 ≤ r) (hi : r ≤ 192000) (so
   dial-below j s a l = rw (a .pair .digit) (digit-below j l)
 
   course : Course digits r stage.Dialling (Dials digits r) (digitAfter r) (length digits) L
-  unfolding stageOf generateOf
+  unfolding generateOf
   course = record {
     named = λ j s a. ap stageOf (a .state);
     moves = λ j s a l. rw (a .state) (dial-moves digits r (a .dial) j (saturating-inc L short j (le-of-lt l)) (dial-below j s a (le-of-lt l)) _ _ (a .pair) (digit-below (suc j) l));
@@ -147,12 +147,11 @@ module _ (digits : List ℕ) (r : ℕ) (lo : 8000 ≤ r) (hi : r ≤ 192000) (so
   }
 
   pub dialling-passes : Passes digits r (enterOf stage.Dialling digits r) stage.Dialling (Dials digits r) L (enterOf stage.Ringback digits r)
-  unfolding nextStage
   dialling-passes = passes digits r stage.Dialling (Dials digits r) (digitAfter r) (length digits) L course (dialling-ends r lo hi (length digits) few some) (enterOf stage.Dialling digits r) start
 
 -- ---- and of none: one sample
 none-last : (r : ℕ) → Lasts [] r (enterOf stage.Dialling [] r) stage.Dialling 1 (enterOf stage.Ringback [] r)
-unfolding after enterOf stageOf nextStage stateNext generateOf diallingOf dialStepOf
+unfolding after enterOf stateNext generateOf diallingOf dialStepOf
 none-last r = record { stays = stays; ends = refl }
   where
     none : (j : ℕ) → suc j < 1 → ⊥

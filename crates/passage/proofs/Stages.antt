@@ -18,12 +18,12 @@ use Rattle.overture.proofs.Iteration.{after-add}
 
 -- ---- one sample
 cj-kept : (b : Bool) (f : FskChannel) (z r : ℕ) → stageOf (cjAt b f z r .state) ≡ stage.Cj
-unfolding stageOf cjAt
+unfolding cjAt
 cj-kept true f z r = refl
 cj-kept false f z r = refl
 
 pub stage-kept : (s : StageState) (digits : List ℕ) (r : ℕ) → stageOf (generateOf s digits r .state) ≡ stageOf s
-unfolding stageOf generateOf offHookOf dialToneOf diallingOf ringbackOf ciOf ansamOf cmJmOf cjOf trainingOf connectedOf
+unfolding generateOf offHookOf dialToneOf diallingOf ringbackOf ciOf ansamOf cmJmOf cjOf trainingOf connectedOf
 stage-kept (OffHook rng n) digits r = refl
 stage-kept (DialTone a b n) digits r = refl
 stage-kept (Dialling i on a b n) digits r = refl
@@ -36,7 +36,7 @@ stage-kept (Training f) digits r = refl
 stage-kept Connected digits r = refl
 
 pub stage-entered : (k : Stage) (digits : List ℕ) (r : ℕ) → stageOf (enterOf k digits r) ≡ k
-unfolding stageOf enterOf
+unfolding enterOf
 stage-entered stage.OffHook digits r = refl
 stage-entered stage.DialTone digits r = refl
 stage-entered stage.Dialling digits r = refl
@@ -49,7 +49,6 @@ stage-entered stage.Training digits r = refl
 stage-entered stage.Connected digits r = refl
 
 next-no-lower : (k : Stage) → stageNumber k ≤ stageNumber (nextStage k)
-unfolding stageNumber nextStage
 next-no-lower stage.OffHook = lit≤ tt
 next-no-lower stage.DialTone = lit≤ tt
 next-no-lower stage.Dialling = lit≤ tt

@@ -34,7 +34,7 @@ stageAt zero = stage.OffHook
 stageAt (suc k) = nextStage (stageAt k)
 
 before-next : (k : Stage) (r d : ℕ) → samplesBefore (nextStage k) r d ≡ samplesBefore k r d + stageLength k r d
-unfolding samplesBefore stageLength nextStage total
+unfolding samplesBefore stageLength total
 before-next stage.OffHook r d = sym (zero-add _)
 before-next stage.DialTone r d = refl
 before-next stage.Dialling r d = refl
@@ -49,7 +49,7 @@ before-next stage.Connected r d = sym (add-zero _)
 -- ---- the overture
 -- every stage but Connected has a sample
 pub stage-some : (r : ℕ) → 8000 ≤ r → r ≤ 192000 → (d : ℕ) → d ≤ 76 → (k : Stage) → stageNumber k ≤ 9 → 1 ≤ stageLength k r d
-unfolding stageLength stageNumber
+unfolding stageLength
 stage-some r lo hi d few stage.OffHook h = click-range r lo hi .0
 stage-some r lo hi d few stage.DialTone h = dial-tone-range r lo hi .0
 stage-some r lo hi d few stage.Dialling h = dialling-range r lo hi d few .0
@@ -67,7 +67,7 @@ stage-some r lo hi d few stage.Connected h = absurd (none h)
 module _ (digits : List ℕ) (r : ℕ) (lo : 8000 ≤ r) (hi : r ≤ 192000) (few : length digits ≤ 76) where
   -- each stage lasts its length
   pub stage-lasts : (k : Stage) → Lasts digits r (enterOf k digits r) k (stageLength k r (length digits)) (enterOf (nextStage k) digits r)
-  unfolding stageLength nextStage
+  unfolding stageLength
   stage-lasts stage.OffHook = off-hook-passes digits r lo hi .lasts
   stage-lasts stage.DialTone = dial-tone-passes digits r lo hi .lasts
   stage-lasts stage.Dialling = dialling-lasts digits r lo hi few
@@ -90,7 +90,6 @@ module _ (digits : List ℕ) (r : ℕ) (lo : 8000 ≤ r) (hi : r ≤ 192000) (fe
       ∙ stage-lasts (stageAt k) .ends
 
   pub enters : (k : Stage) → after (samplesBefore k r (length digits)) (fresh digits r) digits r ≡ enterOf k digits r
-  unfolding nextStage
   enters stage.OffHook = enters-number 0
   enters stage.DialTone = enters-number 1
   enters stage.Dialling = enters-number 2
@@ -131,7 +130,7 @@ module _ (digits : List ℕ) (r : ℕ) (lo : 8000 ≤ r) (hi : r ≤ 192000) (fe
 
   -- ---- T
   pub overture-length : HasLength digits r (total r (length digits))
-  unfolding samplesBefore nextStage enterOf stageNumber
+  unfolding samplesBefore enterOf
   overture-length = record {
     sounding = not-after stage.Training (lit≤ tt);
     connected = λ j. after-entry stage.Connected j ∙ connected-stays digits r j;

@@ -17,11 +17,16 @@ use Rattle.tones.specs.declared.Dial.{Dial}
 use Rattle.tones.specs.Samples.{shifted, clickSample}
 use Rattle.tones.specs.Mixed.{gatedOf, answerOf}
 use Rattle.tones.specs.Dial.{dialStepOf}
-use Rattle.stage.specs.declared.Generated.{Generated}
 use Rattle.stage.specs.declared.StageState.{StageState}
 use Rattle.stage.specs.declared.StageState.the-variants.{OffHook, DialTone, Dialling, Ringback, Ci, Ansam, CmJm, Cj, Training, Connected}
 use Rattle.stage.specs.Stage.{stageOf, nextStage}
 use Rattle.stage.specs.Enter.{enterOf}
+
+-- a sample, the state after it, and whether it was the stage's last
+pub record Generated : Type 0 where
+  pub sample : Float
+  pub state : StageState
+  pub finished : Bool
 
 -- 1
 unfoldable pub offHookOf : ℕ → ℕ → ℕ → Generated

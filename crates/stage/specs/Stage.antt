@@ -5,7 +5,7 @@ use Rattle.stage.specs.declared.Stage.the-variants as stage
 use Rattle.stage.specs.declared.StageState.{StageState}
 use Rattle.stage.specs.declared.StageState.the-variants.{OffHook, DialTone, Dialling, Ringback, Ci, Ansam, CmJm, Cj, Training, Connected}
 
-unfoldable pub stageNumber : Stage → ℕ
+abbrev pub stageNumber : Stage → ℕ
 stageNumber stage.OffHook = 1
 stageNumber stage.DialTone = 2
 stageNumber stage.Dialling = 3
@@ -18,7 +18,7 @@ stageNumber stage.Training = 9
 stageNumber stage.Connected = 10
 
 -- the stage that follows; Connected has no end
-unfoldable pub nextStage : Stage → Stage
+abbrev pub nextStage : Stage → Stage
 nextStage stage.OffHook = stage.DialTone
 nextStage stage.DialTone = stage.Dialling
 nextStage stage.Dialling = stage.Ringback
@@ -31,7 +31,7 @@ nextStage stage.Training = stage.Connected
 nextStage stage.Connected = stage.Connected
 
 -- the stage of a state's next sample
-unfoldable pub stageOf : StageState → Stage
+abbrev pub stageOf : StageState → Stage
 stageOf (OffHook rng n) = stage.OffHook
 stageOf (DialTone a b n) = stage.DialTone
 stageOf (Dialling i on a b n) = stage.Dialling

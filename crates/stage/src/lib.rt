@@ -1,14 +1,10 @@
-// The stages of an overture, one sample at a time. A stage's state is a choice whose cases carry
-// their oscillators; each stage has one function that makes its next sample and the state after
-// it, and `generate` only picks among them. A fill does not come this way: the writers of
-// `overture` play runs of samples, and are held against the same definitions.
+// The stages of an overture: a stage's state is a choice whose cases carry their oscillators.
+// The samples that follow a state are defined in specs/Next; the writers of `overture` make them.
 use fsk::FskChannel;
 use nco::Nco;
-use tones::Dial;
 ghost use mathlib.Core.Path.{_≡_};
 ghost use Rattle.stage.specs.Stage.{stageNumber, nextStage, stageOf};
 ghost use Rattle.stage.specs.Enter.{enterOf};
-ghost use Rattle.stage.specs.Next.{offHookOf, dialToneOf, diallingOf, ringbackOf, ciOf, ansamOf, cmJmOf, cjOf, trainingOf, generateOf};
 
 const DIAL_TONE_A: f64 = 350.0;
 
@@ -87,13 +83,6 @@ pub enum StageState {
     Connected,
 }
 
-// A sample, the state after it, and whether it was the stage's last.
-pub struct Generated {
-    pub sample: f64,
-    pub state: StageState,
-    pub finished: bool,
-}
-
 impl Stage {
     // 01's number.
     pub fn number(self) -> u8
@@ -128,195 +117,6 @@ impl Stage {
             Stage::Training => Stage::Connected,
             Stage::Connected => Stage::Connected,
         }
-    }
-}
-
-fn off_hook(rng: u64, n: u32, rate: u32) -> Generated
-    ensures { λ r. ⌜ r ≡ offHookOf rng n rate ⌝ }
-{
-    let next = tones::shift(rng);
-    let m = schedule::saturating_inc(n);
-    Generated {
-        sample: tones::click_sample(next, schedule::seconds(n, rate)),
-        state: StageState::OffHook { rng: next, n: m },
-        finished: m as u64 >= schedule::stage_samples_for(OFF_HOOK_S, rate),
-    }
-}
-
-fn dial_tone(a: Nco, b: Nco, n: u32, rate: u32) -> Generated
-    ensures { λ r. ⌜ r ≡ dialToneOf a b n rate ⌝ }
-{
-    let p = tones::two_tones(a, b);
-    let next_a = p.a;
-    let next_b = p.b;
-    let m = schedule::saturating_inc(n);
-    Generated {
-        sample: p.sample,
-        state: StageState::DialTone {
-            a: next_a,
-            b: next_b,
-            n: m,
-        },
-        finished: m as u64 >= schedule::stage_samples_for(DIAL_TONE_S, rate),
-    }
-}
-
-fn dialling(dial: Dial, n: u32, digits: &[u8], rate: u32) -> Generated
-    ensures { λ r. ⌜ r ≡ diallingOf dial n (now (digits .entry)) rate ⌝ }
-{
-    let m = schedule::saturating_inc(n);
-    let x = tones::dial_step(dial, m, digits, rate);
-    let next = x.dial;
-    let a = next.a;
-    let b = next.b;
-    Generated {
-        sample: x.sample,
-        state: StageState::Dialling {
-            digit_i: next.digit,
-            in_tone: next.tone,
-            a,
-            b,
-            n: m,
-        },
-        finished: x.finished,
-    }
-}
-
-fn ringback(a: Nco, b: Nco, n: u32, rate: u32) -> Generated
-    ensures { λ r. ⌜ r ≡ ringbackOf a b n rate ⌝ }
-{
-    let progress = schedule::ring_progress(schedule::seconds(n, rate));
-    let p = tones::gated(schedule::ringback_gate(progress.time), a, b);
-    let next_a = p.a;
-    let next_b = p.b;
-    let m = schedule::saturating_inc(n);
-    Generated {
-        sample: p.sample,
-        state: StageState::Ringback {
-            a: next_a,
-            b: next_b,
-            n: m,
-            ring: progress.ring,
-        },
-        finished: m as u64 >= schedule::stage_samples_for(RING_STAGE_S, rate),
-    }
-}
-
-fn ci(fsk: FskChannel) -> Generated
-    ensures { λ r. ⌜ r ≡ ciOf fsk ⌝ }
-{
-    let x = fsk.next_sample(&frame::CI_PAYLOAD);
-    let next = x.fsk;
-    Generated {
-        sample: x.sample,
-        state: StageState::Ci(next),
-        finished: next.done >= 60,
-    }
-}
-
-fn ansam(carrier: Nco, env: Nco, n: u32, rate: u32) -> Generated
-    ensures { λ r. ⌜ r ≡ ansamOf carrier env n rate ⌝ }
-{
-    let sign = schedule::reversal_sign(schedule::seconds(n, rate));
-    let p = tones::answer_tone(carrier, env, sign);
-    let next_carrier = p.a;
-    let next_env = p.b;
-    let m = schedule::saturating_inc(n);
-    Generated {
-        sample: p.sample,
-        state: StageState::Ansam {
-            carrier: next_carrier,
-            env: next_env,
-            n: m,
-        },
-        finished: m as u64 >= schedule::stage_samples_for(ANSAM_S, rate),
-    }
-}
-
-fn cm_jm(fsk: FskChannel) -> Generated
-    ensures { λ r. ⌜ r ≡ cmJmOf fsk ⌝ }
-{
-    let x = fsk.next_sample(&frame::CMJM_PAYLOAD);
-    let next = x.fsk;
-    Generated {
-        sample: x.sample,
-        state: StageState::CmJm(next),
-        finished: next.done >= 80,
-    }
-}
-
-// Its bits, and once all are done its zeros.
-fn cj(fsk: FskChannel, silence: u32, rate: u32) -> Generated
-    ensures { λ r. ⌜ r ≡ cjOf fsk silence rate ⌝ }
-{
-    if fsk.done >= 60 {
-        let m = schedule::saturating_inc(silence);
-        return Generated {
-            sample: 0.0,
-            state: StageState::Cj { fsk, silence_n: m },
-            finished: m as u64 >= schedule::stage_samples_for(CJ_SILENCE_S, rate),
-        };
-    }
-    let x = fsk.next_sample(&frame::CJ_PAYLOAD);
-    let next = x.fsk;
-    Generated {
-        sample: x.sample,
-        state: StageState::Cj {
-            fsk: next,
-            silence_n: silence,
-        },
-        finished: false,
-    }
-}
-
-fn training(fsk: FskChannel) -> Generated
-    ensures { λ r. ⌜ r ≡ trainingOf fsk ⌝ }
-{
-    let x = fsk.next_sample(&frame::TRAINING_PAYLOAD);
-    let next = x.fsk;
-    Generated {
-        sample: x.sample,
-        state: StageState::Training(next),
-        finished: next.done >= 300,
-    }
-}
-
-// One sample of whichever stage. `overture` plays whole runs instead, and is proved against the same definition; `generate` holds that
-// definition, rule by rule, against plain code.
-pub fn generate(state: StageState, digits: &[u8], rate: u32) -> Generated
-    ensures { λ r. ⌜ r ≡ generateOf state (now (digits .entry)) rate ⌝ }
-{
-    match state {
-        StageState::OffHook { rng, n } => off_hook(rng, n, rate),
-        StageState::DialTone { a, b, n } => dial_tone(a, b, n, rate),
-        StageState::Dialling {
-            digit_i,
-            in_tone,
-            a,
-            b,
-            n,
-        } => dialling(
-            Dial {
-                digit: digit_i,
-                tone: in_tone,
-                a,
-                b,
-            },
-            n,
-            digits,
-            rate,
-        ),
-        StageState::Ringback { a, b, n, ring: _ } => ringback(a, b, n, rate),
-        StageState::Ci(fsk) => ci(fsk),
-        StageState::Ansam { carrier, env, n } => ansam(carrier, env, n, rate),
-        StageState::CmJm(fsk) => cm_jm(fsk),
-        StageState::Cj { fsk, silence_n } => cj(fsk, silence_n, rate),
-        StageState::Training(fsk) => training(fsk),
-        StageState::Connected => Generated {
-            sample: 0.0,
-            state: StageState::Connected,
-            finished: false,
-        },
     }
 }
 

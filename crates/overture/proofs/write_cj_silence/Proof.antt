@@ -5,7 +5,6 @@ use lib.ListN.{length, length-set}
 use borrow.Author.Tests.{le-leb, lt-leb}
 use native.Mathlib.Omega.{arith}
 use Rattle.stage.specs.declared.StageState.the-variants.{Cj}
-use Rattle.stage.specs.Stage.{stageOf, nextStage}
 use Rattle.overture.proofs.Writing.{Going, start, as-long, below, again, ended, full, rest-narrow}
 use Rattle.overture.proofs.Bits.{silence-sample, silence-state}
 use borrow.Author.Needs.{needs}
@@ -46,7 +45,6 @@ same-length : tie.Need-same-length Inv-loop μ-loop
 same-length c = let o = c .before .before in simp length-set (as-long _ _ _ _ _ _ _ (o .before .before .loop .inv))
 
 returns : tie.Need-returns Inv-loop μ-loop
-unfolding stageOf nextStage
 returns c =
     let o = c .before .before in
     let h = o .before .before .before .before .before .before .pre in
@@ -60,7 +58,6 @@ loop-less c =
     omega (arith, below _ _ _ _ _ _ _ (o .before .before .loop .inv) (o .before .loop-test .taken))
 
 loop-again : tie.Need-loop-again Inv-loop μ-loop
-unfolding stageOf
 loop-again c =
     let o = c .before in
     let h = o .before .before .before .before .before .before .pre in

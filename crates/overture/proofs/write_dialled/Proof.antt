@@ -1,6 +1,5 @@
 -- `write_dialled` meets its contract: it is one step of the iteration. Assumes nothing.
 use native.Mathlib.Omega.{arith}
-use Rattle.stage.specs.Stage.{stageOf, nextStage}
 use Rattle.stage.specs.Next.{sampleNext, stateNext, generateOf, diallingOf}
 use Rattle.overture.proofs.Writing.{start, ended, full}
 use borrow.Author.Needs.{needs}
@@ -29,7 +28,7 @@ same-length : tie.Need-same-length
 same-length c = search needs
 
 returns-2 : tie.Need-returns-2
-unfolding sampleNext stateNext stageOf nextStage generateOf diallingOf
+unfolding sampleNext stateNext generateOf diallingOf
 returns-2 c =
     let o = c .before .before in
     let d = o .before .before .before .before in
@@ -41,7 +40,7 @@ same-length-2 : tie.Need-same-length-2
 same-length-2 c = search needs
 
 returns-3 : tie.Need-returns-3
-unfolding sampleNext stateNext stageOf generateOf diallingOf
+unfolding sampleNext stateNext generateOf diallingOf
 returns-3 c =
     let o = c .before in
     let d = o .before .before .before .before in

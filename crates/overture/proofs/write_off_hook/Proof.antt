@@ -5,7 +5,6 @@ use lib.ListN.{length, length-set}
 use borrow.Author.Tests.{le-leb, lt-leb}
 use native.Mathlib.Omega.{arith}
 use Rattle.stage.specs.declared.StageState.the-variants.{OffHook}
-use Rattle.stage.specs.Stage.{stageOf, nextStage}
 use Rattle.stage.specs.Next.{sampleNext, stateNext, generateOf, offHookOf}
 use Rattle.overture.proofs.Writing.{Going, start, as-long, below, again, ended, full}
 use borrow.Author.Needs.{needs}
@@ -58,7 +57,7 @@ same-length : tie.Need-same-length Inv-loop μ-loop
 same-length c = let o = c .before .before in simp length-set (as-long _ _ _ _ _ _ _ (o .before .before .before .before .before .before .loop .inv))
 
 returns : tie.Need-returns Inv-loop μ-loop
-unfolding sampleNext stateNext stageOf nextStage generateOf offHookOf
+unfolding sampleNext stateNext generateOf offHookOf
 returns c =
     let o = c .before .before in
     ended _ _ _ _ _ _ _ (o .before .before .before .before .before .before .loop .inv) (o .before .before .before .before .before .loop-test .taken) _ _
@@ -71,7 +70,7 @@ loop-less c =
     omega (arith, below _ _ _ _ _ _ _ (o .before .before .before .before .before .before .loop .inv) (o .before .before .before .before .before .loop-test .taken))
 
 loop-again : tie.Need-loop-again Inv-loop μ-loop
-unfolding sampleNext stateNext stageOf generateOf offHookOf
+unfolding sampleNext stateNext generateOf offHookOf
 loop-again c =
     let o = c .before in
     again _ _ _ _ _ _ _ (o .before .before .before .before .before .before .loop .inv) (o .before .before .before .before .before .loop-test .taken) _ _
