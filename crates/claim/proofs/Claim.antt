@@ -2,121 +2,89 @@
 -- book, and what came since the dial line, are carried from the left. Assumes nothing.
 use Prim.Native.Nat.{ℕ, _+_, _≤_, _<_}
 use native.Mathlib.Omega.{arith}
-use mathlib.Core.Path.{_≡_, refl, sym, ap, subst, _∙_}
+use mathlib.Core.Path.{_≡_, refl, sym, ap, _∙_}
 use mathlib.Core.Bool.{Bool, true, false, true≢false}
 use mathlib.Core.List.{List, [], _∷_, map}
 use mathlib.Core.Logic.{_⊎_, inl, inr, ⊎-elim, _↔_}
-use denote.Ref.{now}
-use lib.Dec.{leb, ltb}
 use lib.ListN.{length}
+use Rattle.keys.specs.Keys.{allKeys}
 use Rattle.schedule.proofs.Total.{total-bounds}
 use Rattle.passage.proofs.Way.{overture-length}
 use Rattle.passage.proofs.Connected.{samples-past}
-use Rattle.soundness.specs.Sound.{rateOk}
+use Rattle.soundness.specs.Sound.{rateOk, digitsOk, stateOk, soundState}
 use Rattle.soundness.proofs.Limits.{rate-low, rate-high, digits-few}
-use Rattle.at.specs.At.{lineFull}
+use Rattle.at.proofs.Sound.{sound-fresh}
 use Rattle.session.specs.declared.SessionState.{SessionState}
 use Rattle.session.specs.declared.SessionState.the-variants.{Idle, Dialling, Answering, Connected}
 use Rattle.session.specs.Session.{stateNumber, idle}
 use Rattle.set.specs.declared.Set.{Set}
 use Rattle.set.specs.declared.Refusal.{Refusal}
 use Rattle.set.specs.Refusals.{refusalNumber}
+use Rattle.set.specs.Sound.{sound}
 use Rattle.set.specs.Set as set
+use Rattle.set.specs.Book.{Book, blank, overture, lengthOf, entryOf, entered}
+use Rattle.set.specs.Event.{Event}
 use Rattle.set.proofs.Unchanged.{Refused}
-use Rattle.set.specs.Book.{Call, typing, time, forcing, filling, Book, blank, overture, lengthOf, typingRefusal, fillRefusal, declinedWith, entered}
-use Rattle.claim.specs.Trace.{Event, typed, lapsed, forced, filled, callOf, setOf, refusalOf, leftBy, Did, Trace, setAfter}
-use Rattle.claim.specs.Claim.{Since, notCalled, noted, turn, sinceNext, NeverBack, Unchanged, Reports, Answered, AllAnswered, bookAfter, sinceAfter, bitsOf, Played, Claim}
-use Rattle.set.proofs.Reached.{reached, Follows}
-use Rattle.set.proofs.Steps.{feed-steps, advance-time-steps, force-data-mode-steps, process-out-steps}
-use Rattle.claim.proofs.Kept.{Course, Kept, kept-sound, typing-kept, time-kept, forcing-kept, filling-kept, blank-kept}
-
--- 6 is none of the book's numbers
-never-6 : (k : Book) (call : Call) → declinedWith k call ≡ 6 → ⊥
-never-6 k (typing byte carrier room) six = go (leb 4 room) (lineFull (k .processor) byte) six
-  where
-    go : (room full : Bool) → typingRefusal room full ≡ 6 → ⊥
-    go false full e = omega arith
-    go true true e = omega arith
-    go true false e = omega arith
-never-6 k (time ns carrier) six = omega arith
-never-6 k forcing six = omega arith
-never-6 k (filling b) six = go (ltb 65536 b) (k .state) six
-  where
-    go : (long : Bool) (state : SessionState) → fillRefusal long state ≡ 6 → ⊥
-    go true state e = omega arith
-    go false Connected e = omega arith
-    go false Idle e = omega arith
-    go false Dialling e = omega arith
-    go false Answering e = omega arith
+use Rattle.set.proofs.Follows.{Follows, Invariant}
+use Rattle.set.proofs.Steps.{Stepped, feed-steps, advance-time-steps, force-data-mode-steps, process-out-steps}
+use Rattle.claim.specs.Trace.{Did, typed, lapsed, forced, filled, Trace, setAfter}
+use Rattle.claim.specs.Claim.{SinceDial, notCalled, sinceNext, NeverBack, Reports, Answered, AllAnswered, callOf, bookAfter, sinceAfter, bitsOf, Played, Claim}
+use Rattle.claim.proofs.Consistent.{Progress, Consistent, room-left, never-6, entry-consistent, blank-consistent}
 
 refused : (cause : Refusal) → (refusalNumber cause ≡ 0 → ⊥) → Refused cause
 unfolding refusalNumber
 refused cause numbered e = numbered (ap refusalNumber e)
 
--- what one call does, made on the set s
-pub record Step (r : ℕ) (s : Set) (k : Book) (h : Since) (e : Event) : Type 0 where
-  pub set : setOf e ≡ reached r (entered r k (callOf e))
-  pub kept : Kept r (entered r k (callOf e)) (sinceNext r k h e)
-  pub answered : Answered r s k e
+-- what each call's own contract tells
+one : (r : ℕ) (k : Book) (s : Set) → Invariant r k s → (e : Event) → Did s e → Stepped r k s e
+one r k s inv e (typed byte carrier κs out left answer asked learnt) = feed-steps r k s inv byte carrier κs out left answer learnt
+one r k s inv e (lapsed ns carrier answer asked learnt) = advance-time-steps r k s inv ns carrier answer learnt
+one r k s inv e (forced answer asked learnt) = force-data-mode-steps r k s inv answer learnt
+one r k s inv e (filled κs out left answer asked learnt) = process-out-steps r k s inv κs out left answer learnt
 
-reports : (r : ℕ) (s : Set) (k : Book) → s ≡ reached r k → Reports s k
-unfolding reached
-reports r s k e =
-    record {
-      count = ap (λ (x : Set). x .session .m) e;
-      state = ap (λ (x : Set). x .session .state) e;
-      stage = ap (λ (x : Set). x .session .shown) e;
-    }
+-- ---- at every point of a list: the set, the book, and what came since the dial line
+pub record ListInvariant (r : ℕ) (s : Set) (k : Book) (h : SinceDial) : Type 0 where
+  pub follows : Follows r k s
+  pub sound : sound s ≡ true
+  pub consistent : Consistent r k h
 
-module _ (r : ℕ) (ok : rateOk r ≡ true) (k : Book) (h : Since) (kept : Kept r k h) where
-  -- from the set that comes back, its number, and that a declined call changes nothing
-  steps : (e : Event) → Follows r k (callOf e) (setOf e) (refusalOf e)
-      → ((refusalNumber (refusalOf e) ≡ 0 → ⊥) → Unchanged (reached r k) e)
-      → (let next = entered r k (callOf e) in Kept r next (noted (turn k (callOf e)) r k (leftBy e) (next .state) (next .shown) h))
-      → Step r (reached r k) k h e
-  steps e f unchanged q =
-      let told = reports r (setOf e) (entered r k (callOf e)) (f .set) in
-      record {
-        set = f .set;
-        kept = rw (told .state, told .stage) q;
-        answered = record {
-          number = f .number;
-          sound = λ (six : refusalNumber (refusalOf e) ≡ 6). never-6 k (callOf e) (sym (f .number) ∙ six);
-          unchanged = unchanged;
-          reports = told;
-        };
-      }
+reports : {r : ℕ} {s : Set} {k : Book} → Follows r k s → Reports s k
+reports f = record { count = f .count; state = f .state; stage = f .shown }
 
-  one : (e : Event) → Did (reached r k) e → Step r (reached r k) k h e
-  one (typed byte carrier κs out left answer) d =
-      let q = feed-steps r k (kept-sound r ok k h kept) byte carrier κs out left answer (d .1) in
-      steps (typed byte carrier κs out left answer) (q .0) (λ numbered. q .1 (refused _ numbered)) (typing-kept r ok k h kept byte carrier (length (now out)))
-  one (lapsed ns carrier answer) d =
-      let q = advance-time-steps r k (kept-sound r ok k h kept) ns carrier answer (d .1) in
-      steps (lapsed ns carrier answer) (q .0) (λ numbered. q .1 (refused _ numbered)) (time-kept r ok k h kept ns carrier)
-  one (forced answer) d =
-      let q = force-data-mode-steps r k (kept-sound r ok k h kept) answer (d .1) in
-      steps (forced answer) (q .0) (λ numbered. q .1 (refused _ numbered)) (forcing-kept r ok k h kept)
-  one (filled κs out left answer) d =
-      let q = process-out-steps r k (kept-sound r ok k h kept) κs out left answer (d .1) in
-      steps (filled κs out left answer) (q .0) (λ numbered. q .1 (refused _ numbered)) (filling-kept r ok k h (length (now out)) left (q .2) kept)
-
--- the induction
-pub record Runs (r : ℕ) (s : Set) (k : Book) (h : Since) (es : List Event) : Type 0 where
+pub record Runs (r : ℕ) (s : Set) (k : Book) (h : SinceDial) (es : List Event) : Type 0 where
   pub answered : AllAnswered r s k es
-  pub last : setAfter s es ≡ reached r (bookAfter r k (map callOf es))
-  pub kept : Kept r (bookAfter r k (map callOf es)) (sinceAfter r k h es)
+  pub last : ListInvariant r (setAfter s es) (bookAfter r k (map callOf es)) (sinceAfter r k h es)
 
 module _ (r : ℕ) (ok : rateOk r ≡ true) where
-  run : (s : Set) (k : Book) (h : Since) → s ≡ reached r k → Kept r k h → (es : List Event) → Trace s es → Runs r s k h es
-  run s k h e kept [] t = record { answered = tt; last = e; kept = kept }
-  run s k h e kept (x ∷ es) (d, t) =
-      let step = subst (λ (y : Set). Did y x → Step r y k h x) (sym e) (one r ok k h kept x) d in
-      let rest = run (setOf x) (entered r k (callOf x)) (sinceNext r k h x) (step .set) (step .kept) es t in
-      record { answered = (step .answered, rest .answered); last = rest .last; kept = rest .kept }
+  pub step : (s : Set) (k : Book) (h : SinceDial) → ListInvariant r s k h → (e : Event) → Did s e
+      → Answered r s k e × ListInvariant r (e .set) (entered r k (e .call)) (sinceNext r k h e)
+  unfolding entered
+  step s k h at e did =
+      let q = one r k s (record { follows = at .follows; sound = at .sound; room = room-left r ok k h (at .consistent) }) e did in
+      let f = q .effect .follows in (
+        record {
+          number = q .effect .number;
+          sound = λ (six : refusalNumber (e .refusal) ≡ 6). never-6 r ok (entryOf k (e .call)) (q .effect .limits) (sym (q .effect .number) ∙ six);
+          unchanged = λ numbered. q .unchanged (refused _ numbered);
+          reports = reports f;
+        },
+        record {
+          follows = f;
+          sound = q .effect .sound;
+          consistent = rw (f .state, f .shown) (entry-consistent r ok k h (at .consistent) (entryOf k (e .call)) (q .effect .limits) (e .left .samples) (q .effect .wrote));
+        },
+      )
 
-  -- what the course says at the list's end
-  up-exactly : (state : SessionState) (digits : List ℕ) (count shown : ℕ) (h : Since) → Course r state digits count shown h → h .called ≡ true
+  -- the induction
+  pub run : (s : Set) (k : Book) (h : SinceDial) → ListInvariant r s k h → (es : List Event) → Trace s es → Runs r s k h es
+  run s k h at [] t = record { answered = tt; last = at }
+  run s k h at (e ∷ es) (did, t) =
+      let q = step s k h at e did in
+      let rest = run (e .set) (entered r k (e .call)) (sinceNext r k h e) (q .1) es t in
+      record { answered = (q .0, rest .answered); last = rest .last }
+
+  -- what the progress says at the list's end
+  up-exactly : (state : SessionState) (digits : List ℕ) (count shown : ℕ) (h : SinceDial) → Progress r state digits count shown h → h .called ≡ true
       → (state ≡ Connected) ↔ ((lengthOf digits r < count) ⊎ (h .emptied ≡ true))
   unfolding stateNumber
   up-exactly Idle digits count shown h c called = absurd (true≢false (sym called ∙ c .1))
@@ -138,19 +106,20 @@ module _ (r : ℕ) (ok : rateOk r ≡ true) where
     λ (p : (lengthOf digits r < count) ⊎ (h .emptied ≡ true)). refl,
   )
 
-  wrote : (state : SessionState) (digits : List ℕ) (count shown : ℕ) (h : Since) → Course r state digits count shown h → h .called ≡ true
+  wrote : (state : SessionState) (digits : List ℕ) (count shown : ℕ) (h : SinceDial) → Progress r state digits count shown h → h .called ≡ true
       → (h .joined ≡ overture digits r count) × (count ≡ h .lengths) × NeverBack (h .stages)
   wrote Idle digits count shown h c called = absurd (true≢false (sym called ∙ c .1))
   wrote Answering digits count shown h c called = absurd (true≢false (sym called ∙ c .1))
   wrote Dialling digits count shown h c called = (c .wrote, c .sum, c .rising)
   wrote Connected digits count shown h c called = (c .wrote, c .sum, c .rising)
 
-  played : (s : Set) (k : Book) (h : Since) → s ≡ reached r k → Kept r k h → h .called ≡ true → Played r s (k .digits) (lengthOf (k .digits) r) h
-  played s k h e kept called =
-      let told = reports r s k e in
-      let few = digits-few (k .digits) (kept .digits) in
+  pub played : (s : Set) (k : Book) (h : SinceDial) → ListInvariant r s k h → h .called ≡ true → Played r s (k .digits) (lengthOf (k .digits) r) h
+  played s k h at called =
+      let told = reports (at .follows) in
+      let consistent = at .consistent in
+      let few = digits-few (k .digits) (consistent .digits) in
       let long = overture-length (k .digits) r (rate-low r ok) (rate-high r ok) few in
-      let w = wrote (k .state) (k .digits) (k .count) (k .shown) h (kept .course) called in
+      let w = wrote (k .state) (k .digits) (k .count) (k .shown) h (consistent .progress) called in
       record {
         ends = long;
         bounds = total-bounds r (rate-low r ok) (rate-high r ok) (length (k .digits)) few;
@@ -159,20 +128,25 @@ module _ (r : ℕ) (ok : rateOk r ≡ true) where
             ap bitsOf (w .0 ∙ ap (overture (k .digits) r) (sym (told .count) ∙ m) ∙ samples-past (k .digits) r (lengthOf (k .digits) r) long j);
         count = told .count ∙ w .1;
         stages = w .2;
-        up = rw (told .state, told .count) (up-exactly (k .state) (k .digits) (k .count) (k .shown) h (kept .course) called);
+        up = rw (told .state, told .count) (up-exactly (k .state) (k .digits) (k .count) (k .shown) h (consistent .progress) called);
       }
 
-  fresh-reached : set.freshSet r ≡ reached r blank
-  unfolding reached idle
-  fresh-reached = refl
+  pub fresh-invariant : ListInvariant r (set.freshSet r) blank notCalled
+  unfolding idle sound soundState stateOk digitsOk allKeys
+  fresh-invariant =
+      record {
+        follows = record { rate = refl; processor = refl; state = refl; digits = refl; count = refl; shown = refl; stage = refl };
+        sound = rw (ok, sound-fresh);
+        consistent = blank-consistent r;
+      }
 
   pub fresh-runs : (es : List Event) → Trace (set.freshSet r) es → Runs r (set.freshSet r) blank notCalled es
-  fresh-runs es t = run (set.freshSet r) blank notCalled fresh-reached (blank-kept r) es t
+  fresh-runs es t = run (set.freshSet r) blank notCalled fresh-invariant es t
 
   fresh-holds : Claim (set.freshSet r)
   fresh-holds es t =
       let q = fresh-runs es t in
-      record { answered = q .answered; played = λ called. played _ _ _ (q .last) (q .kept) called }
+      record { answered = q .answered; played = λ called. played _ _ _ (q .last) called }
 
 -- a set that creation hands out is fresh at a rate in limits
 pub claim : (rate : ℕ) → Claim (set.made rate .set)

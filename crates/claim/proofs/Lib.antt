@@ -1,6 +1,5 @@
 -- The claim and what it rests on, a worked list, and 01's proving cases.
-pub mod Sounding
-pub mod Kept
+pub mod Consistent
 pub mod Claim
 pub mod Lists
 pub mod Worked

@@ -1,73 +1,104 @@
--- The claim is not empty: every list of calls, whatever is lent to them, has a trace, from every set. By the calls' definitions. Assumes nothing.
+-- The claim is not empty: every list of calls, whatever is lent to them, has a trace, from every set. By the calls' definitions. Traces can be
+-- joined, and what is consistent over a list is consistent over its parts. Assumes nothing.
 use Prim.Native.Nat.{ℕ}
 use mathlib.Core.Path.{_≡_, refl, ap}
-use mathlib.Core.Bool.{Bool}
-use mathlib.Core.List.{List, [], _∷_, map}
+use mathlib.Core.List.{List, [], _∷_, _++_, map}
 use contract.Lifetimes.{Lfts}
 use denote.Ref.{RefT, now}
 use lib.Ieee.{Float, binary32, ofBits}
 use lib.ListN.{length, replicate, length-replicate}
 use Rattle.set.specs.declared.Set.{Set}
 use Rattle.set.specs.Set as set
-use Rattle.set.specs.Book.{Call, typing, time, forcing, filling}
-use Rattle.claim.specs.Trace.{Event, typed, lapsed, forced, filled, callOf, Trace}
+use Rattle.set.specs.Book.{Call, typing, time, forcing, filling, Book, entered}
+use Rattle.set.specs.Event.{Event, typedEvent, lapsedEvent, forcedEvent, filledEvent}
+use Rattle.claim.specs.Trace.{Did, typed, lapsed, forced, filled, Trace, setAfter}
+use Rattle.claim.specs.Claim.{SinceDial, sinceNext, callOf, bookAfter, sinceAfter}
 
--- a call to be made, with what is lent to it
-pub data Act : Type 0 where
-  type : (byte : ℕ) (carrier : Bool) (out : RefT (List ℕ)) → Act
-  wait : (ns : ℕ) (carrier : Bool) → Act
-  force : Act
-  lend : (out : RefT (List Float)) → Act
+-- what is lent to a call that asks for so many bytes or so many samples
+pub record Lender : Type 0 where
+  pub bytes : ℕ → List ℕ
+  pub all-bytes : (n : ℕ) → length (bytes n) ≡ n
+  pub samples : ℕ → List Float
+  pub all-samples : (n : ℕ) → length (samples n) ≡ n
 
-abbrev pub asked : Act → Call
-asked (type byte carrier out) = typing byte carrier (length (now out))
-asked (wait ns carrier) = time ns carrier
-asked force = forcing
-asked (lend out) = filling (length (now out))
+abbrev pub zeros : Lender
+zeros =
+    record {
+      bytes = λ n. replicate n 0;
+      all-bytes = λ n. length-replicate n 0;
+      samples = λ n. replicate n (ofBits binary32 0);
+      all-samples = λ n. length-replicate n (ofBits binary32 0);
+    }
 
--- what comes of the calls, made on the set s
-abbrev pub made : Lfts 1 → Set → List Act → List Event
-made κs s [] = []
-made κs s (type byte carrier out ∷ acts) =
-    typed byte carrier κs out (set.outbox s byte (now out)) (set.typed s byte carrier (length (now out)))
-    ∷ made κs (set.typed s byte carrier (length (now out)) .set) acts
-made κs s (wait ns carrier ∷ acts) = lapsed ns carrier (set.lapsed s ns carrier) ∷ made κs (set.lapsed s ns carrier .set) acts
-made κs s (force ∷ acts) = forced (set.forced s) ∷ made κs (set.forced s .set) acts
-made κs s (lend out ∷ acts) =
-    filled κs out (set.buffer s (now out)) (set.fill s (length (now out)))
-    ∷ made κs (set.fill s (length (now out)) .set) acts
-
-pub every-list : (κs : Lfts 1) (s : Set) (acts : List Act) → Trace s (made κs s acts) × (map callOf (made κs s acts) ≡ map asked acts)
-every-list κs s [] = (tt, refl)
-every-list κs s (type byte carrier out ∷ acts) =
-    let q = every-list κs (set.typed s byte carrier (length (now out)) .set) acts in
-    (((tt, (refl, refl)), q .0), ap (λ (l : List Call). typing byte carrier (length (now out)) ∷ l) (q .1))
-every-list κs s (wait ns carrier ∷ acts) =
-    let q = every-list κs (set.lapsed s ns carrier .set) acts in
-    (((tt, refl), q .0), ap (λ (l : List Call). time ns carrier ∷ l) (q .1))
-every-list κs s (force ∷ acts) =
-    let q = every-list κs (set.forced s .set) acts in
-    (((tt, refl), q .0), ap (λ (l : List Call). forcing ∷ l) (q .1))
-every-list κs s (lend out ∷ acts) =
-    let q = every-list κs (set.fill s (length (now out)) .set) acts in
-    (((tt, (refl, refl)), q .0), ap (λ (l : List Call). filling (length (now out)) ∷ l) (q .1))
-
--- ---- and every list of the book's calls is asked by one: with buffers of zeros
 abbrev pub lent : {X : Type 0} → List X → RefT (List X)
 lent values = record { ptr = (0, 0); name = 0; now = values }
 
-abbrev pub actOf : Call → Act
-actOf (typing byte carrier room) = type byte carrier (lent (replicate room 0))
-actOf (time ns carrier) = wait ns carrier
-actOf forcing = force
-actOf (filling b) = lend (lent (replicate b (ofBits binary32 0)))
+-- ---- what comes of a call, made on the set s
+pub record Made (s : Set) (call : Call) : Type 0 where
+  pub event : Event
+  pub did : Did s event
+  pub asked : callOf event ≡ call
 
-one-asked : (call : Call) → asked (actOf call) ≡ call
-one-asked (typing byte carrier room) = ap (typing byte carrier) (length-replicate room 0)
-one-asked (time ns carrier) = refl
-one-asked forcing = refl
-one-asked (filling b) = ap filling (length-replicate b (ofBits binary32 0))
+pub makes : Lfts 1 → Lender → (s : Set) (call : Call) → Made s call
+makes κs l s (typing byte carrier room) =
+    let was = l .bytes room in
+    record {
+      event = typedEvent byte carrier was (set.outbox s byte was) (set.typed s byte carrier (length was));
+      did = typed byte carrier κs (lent was) (set.outbox s byte was) (set.typed s byte carrier (length was)) tt (refl, refl);
+      asked = ap (typing byte carrier) (l .all-bytes room);
+    }
+makes κs l s (time ns carrier) =
+    record { event = lapsedEvent ns carrier (set.lapsed s ns carrier); did = lapsed ns carrier (set.lapsed s ns carrier) tt refl; asked = refl }
+makes κs l s forcing = record { event = forcedEvent (set.forced s); did = forced (set.forced s) tt refl; asked = refl }
+makes κs l s (filling b) =
+    let was = l .samples b in
+    record {
+      event = filledEvent was (set.buffer s was) (set.fill s (length was));
+      did = filled κs (lent was) (set.buffer s was) (set.fill s (length was)) tt (refl, refl);
+      asked = ap filling (l .all-samples b);
+    }
 
-pub all-asked : (calls : List Call) → map asked (map actOf calls) ≡ calls
+-- ---- and of a list of them
+pub record Act : Type 0 where
+  pub call : Call
+  pub lender : Lender
+
+abbrev pub asked : Act → Call
+asked act = act .call
+
+pub record Listed (s : Set) (acts : List Act) : Type 0 where
+  pub events : List Event
+  pub trace : Trace s events
+  pub asked : map callOf events ≡ map asked acts
+
+pub every-list : (κs : Lfts 1) (s : Set) (acts : List Act) → Listed s acts
+every-list κs s [] = record { events = []; trace = tt; asked = refl }
+every-list κs s (act ∷ acts) =
+    let one = makes κs (act .lender) s (act .call) in
+    let rest = every-list κs (one .event .set) acts in
+    record { events = one .event ∷ rest .events; trace = (one .did, rest .trace); asked = rw (one .asked, rest .asked) }
+
+abbrev pub lendingZeros : Call → Act
+lendingZeros call = record { call = call; lender = zeros }
+
+pub all-asked : (calls : List Call) → map asked (map lendingZeros calls) ≡ calls
 all-asked [] = refl
-all-asked (call ∷ calls) = rw (one-asked call, all-asked calls)
+all-asked (call ∷ calls) = ap (λ (rest : List Call). call ∷ rest) (all-asked calls)
+
+-- ---- a list after a list
+pub trace-joined : (s : Set) (es fs : List Event) → Trace s es → Trace (setAfter s es) fs → Trace s (es ++ fs)
+trace-joined s [] fs t u = u
+trace-joined s (e ∷ es) fs (did, t) u = (did, trace-joined (e .set) es fs t u)
+
+pub set-joined : (s : Set) (es fs : List Event) → setAfter s (es ++ fs) ≡ setAfter (setAfter s es) fs
+set-joined s [] fs = refl
+set-joined s (e ∷ es) fs = set-joined (e .set) es fs
+
+pub book-joined : (r : ℕ) (k : Book) (before later : List Call) → bookAfter r k (before ++ later) ≡ bookAfter r (bookAfter r k before) later
+book-joined r k [] later = refl
+book-joined r k (call ∷ before) later = book-joined r (entered r k call) before later
+
+pub since-joined : (r : ℕ) (k : Book) (h : SinceDial) (es fs : List Event)
+    → sinceAfter r k h (es ++ fs) ≡ sinceAfter r (bookAfter r k (map callOf es)) (sinceAfter r k h es) fs
+since-joined r k h [] fs = refl
+since-joined r k h (e ∷ es) fs = since-joined r (entered r k (e .call)) (sinceNext r k h e) es fs

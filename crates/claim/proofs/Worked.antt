@@ -25,22 +25,21 @@ use Rattle.at.specs.At.{ended, commandByte, typedByte, lineFull}
 use Rattle.session.specs.declared.SessionState.{SessionState}
 use Rattle.session.specs.declared.SessionState.the-variants.{Dialling, Connected}
 use Rattle.soundness.specs.Sound.{rateOk}
-use Rattle.set.specs.declared.Set.{Set}
 use Rattle.set.specs.Set.{freshSet}
-use Rattle.set.specs.Book.{Call, typing, filling, Book, blank, lengthOf, stageOfSample, shownBy, lit, entered}
-use Rattle.set.proofs.Reached.{reached}
-use Rattle.claim.specs.Trace.{Event, callOf, Trace, setAfter}
-use Rattle.claim.specs.Claim.{Since, notCalled, bookAfter, sinceAfter}
-use Rattle.claim.proofs.Kept.{Up, Kept}
+use Rattle.set.specs.Book.{Call, typing, filling, Book, blank, lengthOf, stageOfSample, shownBy, stateIf, afterFill, entryOf, entered}
+use Rattle.set.specs.Event.{Event}
+use Rattle.claim.specs.Trace.{Trace, setAfter}
+use Rattle.claim.specs.Claim.{SinceDial, notCalled, callOf, bookAfter, sinceAfter}
+use Rattle.claim.proofs.Consistent.{Up, Consistent}
 use Rattle.claim.proofs.Claim.{fresh-runs}
-use Rattle.claim.proofs.Lists.{actOf, made, every-list, all-asked}
+use Rattle.claim.proofs.Lists.{lendingZeros, every-list, all-asked, book-joined}
 
 -- ATDT12 and CR, each byte with an outbox of 4 bytes
 abbrev pub dial12 : List Call
 dial12 = map (λ (byte : ℕ). typing byte false 4) (ascii "ATDT12\r")
 
 pub dialled : (bookAfter 8000 blank dial12 .state ≡ Dialling) × (bookAfter 8000 blank dial12 .digits ≡ ascii "12") × (bookAfter 8000 blank dial12 .count ≡ 0)
-unfolding entered typedByte commandByte ended pushed upper uppercased begins is commandOf executed lineFull digitsOf keysOf isKey keyRow
+unfolding entered entryOf typedByte commandByte ended pushed upper uppercased begins is commandOf executed lineFull digitsOf keysOf isKey keyRow
 dialled = (refl, refl, refl)
 
 -- T, for 12 at 8,000
@@ -56,9 +55,9 @@ T-near = let b = total-bounds 8000 (lit≤ tt) (lit≤ tt) 2 (lit≤ tt) in go T
 long : HasLength (ascii "12") 8000 T
 long = overture-length (ascii "12") 8000 (lit≤ tt) (lit≤ tt) (lit≤ tt)
 
-sounds : (i : ℕ) → i < T → eqb (stageOfSample (ascii "12") 8000 (suc i)) 10 ≡ false
+not-ten : (i : ℕ) → i < T → eqb (stageOfSample (ascii "12") 8000 (suc i)) 10 ≡ false
 unfolding stageOfSample
-sounds i l = ne-eqb _ 10 (ten _ (long .sounding i l))
+not-ten i l = ne-eqb _ 10 (ten _ (long .sounding i l))
   where
     ten : (n : ℕ) → n ≤ 9 → n ≡ 10 → ⊥
     ten n h e = omega arith
@@ -76,19 +75,16 @@ record At (state : SessionState) (count : ℕ) (k : Book) : Type 0 where
 same-count : {state : SessionState} {a b : ℕ} {k : Book} → a ≡ b → At state a k → At state b k
 same-count e p = record { state-is = p .state-is; digits-are = p .digits-are; count-is = p .count-is ∙ e }
 
-abbrev after-fill : (up : Bool) → SessionState
-after-fill true = Connected
-after-fill false = Dialling
-
-lit-at : (up : Bool) (shown count : ℕ) (k : Book) → k .digits ≡ ascii "12" → At (after-fill up) count (lit up shown count k)
-lit-at true shown count k e = record { state-is = refl; digits-are = e; count-is = refl }
-lit-at false shown count k e = record { state-is = refl; digits-are = e; count-is = refl }
+after-fill-at : (up : Bool) (shown count : ℕ) (k : Book) → k .digits ≡ ascii "12" → At (stateIf up) count (afterFill up shown count k)
+after-fill-at true shown count k e = record { state-is = refl; digits-are = e; count-is = refl }
+after-fill-at false shown count k e = record { state-is = refl; digits-are = e; count-is = refl }
 
 fill-at : (up : Bool) (count b : ℕ) (k : Book) → At Dialling count k → b ≤ 65536
-    → eqb (shownBy (ascii "12") 8000 count b) 10 ≡ up → At (after-fill up) (count + b) (entered 8000 k (filling b))
-unfolding entered
+    → eqb (shownBy (ascii "12") 8000 count b) 10 ≡ up → At (stateIf up) (count + b) (entered 8000 k (filling b))
+unfolding entered entryOf
 fill-at up count b k a short e =
-    rw (a .state-is, le-ltb 65536 b short, a .digits-are, a .count-is, e) (lit-at up _ (count + b) _ refl)
+    let now : Book = record { processor = k .processor; state = Dialling; digits = ascii "12"; count = count; shown = k .shown } in
+    rw (a .state-is, le-ltb 65536 b short, a .digits-are, a .count-is, e) (after-fill-at up _ (count + b) now refl)
 
 -- across OffHook's end at 400, across DialTone's at 8,400, empty, up to Dialling's last sample, the longest, and all that is left; then empty at T
 abbrev pub fills : List Call
@@ -118,30 +114,26 @@ module _ (k : Book) (a : At Dialling 0 k) where
 
   played : At Dialling T (bookAfter 8000 k (filling 401 ∷ filling 8000 ∷ filling 0 ∷ filling 3199 ∷ filling 65536 ∷ filling (suc (T - 77137)) ∷ []))
   played =
-      let a1 = fill-at false 0 401 k a (lit≤ tt) (sounds 400 (within 400 (lit≤ tt))) in
-      let a2 = fill-at false 401 8000 _ a1 (lit≤ tt) (sounds 8400 (within 8400 (lit≤ tt))) in
-      let a3 = fill-at false 8401 0 _ a2 (lit≤ tt) (sounds 8401 (within 8401 (lit≤ tt))) in
-      let a4 = fill-at false 8401 3199 _ a3 (lit≤ tt) (sounds 11599 (within 11599 (lit≤ tt))) in
-      let a5 = fill-at false 11600 65536 _ a4 (lit≤ tt) (sounds 77135 (within 77135 (lit≤ tt))) in
-      let last : eqb (stageOfSample (ascii "12") 8000 (77136 + suc (T - 77137))) 10 ≡ false = rw add-suc (sounds (77136 + (T - 77137)) (omega (arith, T-near .0))) in
+      let a1 = fill-at false 0 401 k a (lit≤ tt) (not-ten 400 (within 400 (lit≤ tt))) in
+      let a2 = fill-at false 401 8000 _ a1 (lit≤ tt) (not-ten 8400 (within 8400 (lit≤ tt))) in
+      let a3 = fill-at false 8401 0 _ a2 (lit≤ tt) (not-ten 8401 (within 8401 (lit≤ tt))) in
+      let a4 = fill-at false 8401 3199 _ a3 (lit≤ tt) (not-ten 11599 (within 11599 (lit≤ tt))) in
+      let a5 = fill-at false 11600 65536 _ a4 (lit≤ tt) (not-ten 77135 (within 77135 (lit≤ tt))) in
+      let last : eqb (stageOfSample (ascii "12") 8000 (77136 + suc (T - 77137))) 10 ≡ false = rw add-suc (not-ten (77136 + (T - 77137)) (omega (arith, T-near .0))) in
       let a6 = fill-at false 77136 (suc (T - 77137)) _ a5 (rest-short T (T-near .1)) last in
       same-count (whole T (T-near .0)) a6
 
   up-at-T : At Connected T (bookAfter 8000 k fills)
   up-at-T = same-count (add-zero T) (fill-at true T 0 _ played (lit≤ tt) ends)
 
-joined-calls : (k : Book) (before later : List Call) → bookAfter 8000 k (before ++ later) ≡ bookAfter 8000 (bookAfter 8000 k before) later
-joined-calls k [] later = refl
-joined-calls k (call ∷ before) later = joined-calls (entered 8000 k call) before later
-
 worked-book : At Connected T (bookAfter 8000 blank calls)
 worked-book =
     let start : At Dialling 0 (bookAfter 8000 blank dial12) = record { state-is = dialled .0; digits-are = dialled .1; count-is = dialled .2 } in
-    subst (At Connected T) (sym (joined-calls blank dial12 fills)) (up-at-T (bookAfter 8000 blank dial12) start)
+    subst (At Connected T) (sym (book-joined 8000 blank dial12 fills)) (up-at-T (bookAfter 8000 blank dial12) start)
 
 -- ---- what comes of these calls on a set fresh at 8,000
 abbrev pub events : Lfts 1 → List Event
-events κs = made κs (freshSet 8000) (map actOf calls)
+events κs = every-list κs (freshSet 8000) (map lendingZeros calls) .events
 
 pub record Worked (κs : Lfts 1) : Type 0 where
   pub trace : Trace (freshSet 8000) (events κs)
@@ -154,7 +146,7 @@ pub record Worked (κs : Lfts 1) : Type 0 where
   pub emptied : sinceAfter 8000 blank notCalled (events κs) .emptied ≡ true
   pub up : setAfter (freshSet 8000) (events κs) .session .state ≡ Connected
 
-module _ (count : ℕ) (h : Since) (c : Up 8000 (ascii "12") count h) (e : count ≡ T) where
+module _ (count : ℕ) (h : SinceDial) (c : Up 8000 (ascii "12") count h) (e : count ≡ T) where
   emptied-at-T : h .emptied ≡ true
   emptied-at-T =
       ⊎-elim
@@ -165,23 +157,23 @@ module _ (count : ℕ) (h : Since) (c : Up 8000 (ascii "12") count h) (e : count
       not-past : (T count : ℕ) → T < count → count ≡ T → ⊥
       not-past T count l e = omega arith
 
-course-up : (k : Book) (h : Since) → At Connected T k → Kept 8000 k h → Up 8000 (ascii "12") (k .count) h
-course-up k h a kept = rw (a .state-is, a .digits-are) at (kept .course)
+progress-up : (k : Book) (h : SinceDial) → At Connected T k → Consistent 8000 k h → Up 8000 (ascii "12") (k .count) h
+progress-up k h a consistent = rw (a .state-is, a .digits-are) at (consistent .progress)
 
 pub worked : (κs : Lfts 1) → Worked κs
-unfolding rateOk reached
+unfolding rateOk
 worked κs =
-    let q = every-list κs (freshSet 8000) (map actOf calls) in
-    let same : map callOf (events κs) ≡ calls = q .1 ∙ all-asked calls in
+    let q = every-list κs (freshSet 8000) (map lendingZeros calls) in
+    let same : map callOf (events κs) ≡ calls = q .asked ∙ all-asked calls in
     let book : At Connected T (bookAfter 8000 blank (map callOf (events κs))) = subst (λ (cs : List Call). At Connected T (bookAfter 8000 blank cs)) (sym same) worked-book in
-    let runs = fresh-runs 8000 refl (events κs) (q .0) in
-    let course : Up 8000 (ascii "12") (bookAfter 8000 blank (map callOf (events κs)) .count) (sinceAfter 8000 blank notCalled (events κs)) = course-up _ _ book (runs .kept) in
+    let runs = fresh-runs 8000 refl (events κs) (q .trace) in
+    let progress : Up 8000 (ascii "12") (bookAfter 8000 blank (map callOf (events κs)) .count) (sinceAfter 8000 blank notCalled (events κs)) = progress-up _ _ book (runs .last .consistent) in
     record {
-      trace = q .0;
+      trace = q .trace;
       asked = same;
-      called = course .called;
+      called = progress .called;
       digits = book .digits-are;
-      count = ap (λ (s : Set). s .session .m) (runs .last) ∙ book .count-is;
-      emptied = emptied-at-T _ _ course (book .count-is);
-      up = ap (λ (s : Set). s .session .state) (runs .last) ∙ book .state-is;
+      count = runs .last .follows .count ∙ book .count-is;
+      emptied = emptied-at-T _ _ progress (book .count-is);
+      up = runs .last .follows .state ∙ book .state-is;
     }

@@ -1,14 +1,12 @@
 -- Demand 3 and 01, "The list of demand 3": the claim about every list of calls from a set fresh at the rate r.
-use Prim.Native.Nat.{ℕ, zero, suc, _+_, _≤_, _<_}
+use Prim.Native.Nat.{ℕ, _+_, _≤_, _<_}
 use mathlib.Core.Path.{_≡_}
 use mathlib.Core.Bool.{Bool, true, false, _&&_, _||_}
 use mathlib.Core.List.{List, [], _∷_, _++_, map}
 use mathlib.Core.Logic.{_⊎_, _↔_}
-use denote.Ref.{now}
 use lib.Dec.{eqb}
 use lib.Ieee.{Float, binary32, toBits, ofBits}
 use lib.ListN.{length, replicate}
-use Rattle.reply.specs.declared.Reply.the-variants as reply
 use Rattle.at.specs.declared.Control.{Control}
 use Rattle.at.specs.declared.Control.the-variants.{Nothing, Dial, Answer, Hangup}
 use Rattle.session.specs.declared.SessionState.{SessionState}
@@ -17,37 +15,12 @@ use Rattle.schedule.specs.Bounds.{TotalBounds}
 use Rattle.passage.specs.Overture.{HasLength}
 use Rattle.set.specs.declared.Set.{Set}
 use Rattle.set.specs.Refusals.{refusalNumber}
-use Rattle.set.specs.Book.{Call, typing, time, forcing, filling, Book, blank, overture, lengthOf, declinedWith, fedBy, lapsedBy, entered}
-use Rattle.claim.specs.Trace.{Event, typed, lapsed, forced, filled, callOf, setOf, refusalOf, leftBy, Trace, setAfter}
+use Rattle.set.specs.Book.{Call, Book, blank, overture, lengthOf, Entry, declined, asks, fills, entryOf, declinedWith, entered}
+use Rattle.set.specs.Event.{Event, Unchanged}
+use Rattle.claim.specs.Trace.{Trace, setAfter}
 
 -- ---- since the last dial line
--- what a call is, by the book: a dial line; an answer, a hang-up or a lost carrier; a fill of b samples; or none of these, as a declined call
-pub data Turn : Type 0 where
-  dialLine : Turn
-  ending : Turn
-  fill : (b : ℕ) → Turn
-  other : Turn
-
-abbrev pub turnOf : Control → Turn
-turnOf Nothing = other
-turnOf Dial = dialLine
-turnOf Answer = ending
-turnOf Hangup = ending
-
-abbrev pub turnTaken : Book → Call → Turn
-turnTaken k (typing byte carrier room) = turnOf (fedBy k byte carrier room .control)
-turnTaken k (time ns carrier) = turnOf (lapsedBy k ns carrier .control)
-turnTaken k forcing = other
-turnTaken k (filling b) = fill b
-
-abbrev pub turnUnlessDeclined : ℕ → Turn → Turn
-turnUnlessDeclined zero turn = turn
-turnUnlessDeclined (suc number) turn = other
-
-abbrev pub turn : Book → Call → Turn
-turn k call = turnUnlessDeclined (declinedWith k call) (turnTaken k call)
-
-pub record Since : Type 0 where
+pub record SinceDial : Type 0 where
   -- a dial line came, and no hang-up, answer or lost carrier since the last one
   pub called : Bool
   -- the buffers filled since that dial line, each as its fill left it, joined; and the sum of their lengths
@@ -58,7 +31,7 @@ pub record Since : Type 0 where
   -- an empty fill has come since, at count = T
   pub emptied : Bool
 
-abbrev pub notCalled : Since
+abbrev pub notCalled : SinceDial
 notCalled = record { called = false; joined = []; lengths = 0; stages = []; emptied = false }
 
 -- a stage is shown while the line is not up
@@ -68,11 +41,19 @@ seen Dialling stage stages = stage ∷ stages
 seen Answering stage stages = stage ∷ stages
 seen Connected stage stages = stages
 
--- by the book before the call, the buffer that it left, and the state and the stage that the set shows after it
-abbrev pub noted : Turn → ℕ → Book → List Float → SessionState → ℕ → Since → Since
-noted dialLine r k left state stage h = record { called = true; joined = []; lengths = 0; stages = seen state stage []; emptied = false }
-noted ending r k left state stage h = notCalled
-noted (fill b) r k left state stage h =
+abbrev pub passed : SessionState → ℕ → SinceDial → SinceDial
+passed state stage h =
+    record { called = h .called; joined = h .joined; lengths = h .lengths; stages = seen state stage (h .stages); emptied = h .emptied }
+
+abbrev pub notedControl : Control → SessionState → ℕ → SinceDial → SinceDial
+notedControl Nothing state stage h = passed state stage h
+notedControl Dial state stage h = record { called = true; joined = []; lengths = 0; stages = seen state stage []; emptied = false }
+notedControl Answer state stage h = notCalled
+notedControl Hangup state stage h = notCalled
+
+-- a fill's buffer belongs to the overture while the book is Dialling
+abbrev pub notedFill : SessionState → ℕ → ℕ → Book → List Float → SessionState → ℕ → SinceDial → SinceDial
+notedFill Dialling b r k left state stage h =
     record {
       called = h .called;
       joined = h .joined ++ left;
@@ -80,11 +61,18 @@ noted (fill b) r k left state stage h =
       stages = seen state stage (h .stages);
       emptied = h .emptied || (eqb b 0 && eqb (k .count) (lengthOf (k .digits) r));
     }
-noted other r k left state stage h =
-    record { called = h .called; joined = h .joined; lengths = h .lengths; stages = seen state stage (h .stages); emptied = h .emptied }
+notedFill Idle b r k left state stage h = passed state stage h
+notedFill Answering b r k left state stage h = passed state stage h
+notedFill Connected b r k left state stage h = passed state stage h
 
-abbrev pub sinceNext : ℕ → Book → Since → Event → Since
-sinceNext r k h e = noted (turn k (callOf e)) r k (leftBy e) (setOf e .session .state) (setOf e .session .shown) h
+-- by what the call comes to in the book, the book before it, the buffer that it left, and the state and the stage that the set shows after it
+abbrev pub noted : Entry → ℕ → Book → List Float → SessionState → ℕ → SinceDial → SinceDial
+noted (declined number) r k left state stage h = passed state stage h
+noted (asks control line p) r k left state stage h = notedControl control state stage h
+noted (fills b) r k left state stage h = notedFill (k .state) b r k left state stage h
+
+abbrev pub sinceNext : ℕ → Book → SinceDial → Event → SinceDial
+sinceNext r k h e = noted (entryOf k (e .call)) r k (e .left .samples) (e .set .session .state) (e .set .session .shown) h
 
 -- ---- to go back is a shown stage lower than one shown earlier since the dial line
 abbrev pub AllAtMost : ℕ → List ℕ → Type 0
@@ -96,14 +84,6 @@ NeverBack [] = Unit {0}
 NeverBack (x ∷ older) = AllAtMost x older × NeverBack older
 
 -- ---- each call of the list
--- "set and lent buffers keep their contents"
-abbrev pub Unchanged : Set → Event → Type 0
-Unchanged s (typed byte carrier κs out left answer) =
-    (answer .set ≡ s) × (left ≡ now out) × (answer .reply ≡ reply.None) × (answer .sent ≡ 0)
-Unchanged s (lapsed ns carrier answer) = (answer .set ≡ s) × (answer .reply ≡ reply.None)
-Unchanged s (forced answer) = answer .set ≡ s
-Unchanged s (filled κs out left answer) = (answer .set ≡ s) × (left ≡ now out)
-
 -- the set reports the book's count as m, and its state and shown stage
 pub record Reports (s : Set) (k : Book) : Type 0 where
   pub count : s .session .m ≡ k .count
@@ -112,29 +92,32 @@ pub record Reports (s : Set) (k : Book) : Type 0 where
 
 -- the call is declined with the book's number, never with 6; a declined call changes nothing; then the set reports what the book says
 pub record Answered (r : ℕ) (s : Set) (k : Book) (e : Event) : Type 0 where
-  pub number : refusalNumber (refusalOf e) ≡ declinedWith k (callOf e)
-  pub sound : refusalNumber (refusalOf e) ≡ 6 → ⊥
-  pub unchanged : (refusalNumber (refusalOf e) ≡ 0 → ⊥) → Unchanged s e
-  pub reports : Reports (setOf e) (entered r k (callOf e))
+  pub number : refusalNumber (e .refusal) ≡ declinedWith k (e .call)
+  pub sound : refusalNumber (e .refusal) ≡ 6 → ⊥
+  pub unchanged : (refusalNumber (e .refusal) ≡ 0 → ⊥) → Unchanged s e
+  pub reports : Reports (e .set) (entered r k (e .call))
 
 abbrev pub AllAnswered : ℕ → Set → Book → List Event → Type 0
 AllAnswered r s k [] = Unit {0}
-AllAnswered r s k (e ∷ es) = Answered r s k e × AllAnswered r (setOf e) (entered r k (callOf e)) es
+AllAnswered r s k (e ∷ es) = Answered r s k e × AllAnswered r (e .set) (entered r k (e .call)) es
 
 -- ---- after the list
+abbrev pub callOf : Event → Call
+callOf e = e .call
+
 abbrev pub bookAfter : ℕ → Book → List Call → Book
 bookAfter r k [] = k
 bookAfter r k (call ∷ calls) = bookAfter r (entered r k call) calls
 
-abbrev pub sinceAfter : ℕ → Book → Since → List Event → Since
+abbrev pub sinceAfter : ℕ → Book → SinceDial → List Event → SinceDial
 sinceAfter r k h [] = h
-sinceAfter r k h (e ∷ es) = sinceAfter r (entered r k (callOf e)) (sinceNext r k h e) es
+sinceAfter r k h (e ∷ es) = sinceAfter r (entered r k (e .call)) (sinceNext r k h e) es
 
 abbrev pub bitsOf : List Float → List ℕ
 bitsOf samples = map (toBits binary32) samples
 
 -- the set s, with m samples of the overture for the digits at the rate r written, T its length
-pub record Played (r : ℕ) (s : Set) (digits : List ℕ) (T : ℕ) (h : Since) : Type 0 where
+pub record Played (r : ℕ) (s : Set) (digits : List ℕ) (T : ℕ) (h : SinceDial) : Type 0 where
   -- T is the overture's length, and has its bounds
   pub ends : HasLength digits r T
   pub bounds : TotalBounds r (length digits)

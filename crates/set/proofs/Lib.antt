@@ -1,5 +1,6 @@
--- Laws on a set: its ranges, what a refusal leaves, and the book that it stands for.
+-- Laws on a set: its ranges, that calls leave it sound, what a refusal leaves, and that it follows the book.
 pub mod Ranges
+pub mod Soundness
 pub mod Unchanged
-pub mod Reached
+pub mod Follows
 pub mod Steps

@@ -1,9 +1,9 @@
--- What soundness says of a set's numbers: the test, taken apart. Assumes nothing.
+-- What soundness says of a set's numbers: the test, taken apart and put together. Assumes nothing.
 use Prim.Native.Nat.{_≤_}
 use mathlib.Core.Path.{_≡_}
 use mathlib.Core.Bool.{true, and-eq-true-iff}
 use lib.Dec.{leb}
-use borrow.Author.Tests.{leb-true}
+use borrow.Author.Tests.{leb-true, le-leb}
 use Rattle.at.specs.Processor as processor
 use Rattle.soundness.specs.Sound.{soundState}
 use Rattle.soundness.proofs.Limits.{rate-low, rate-high}
@@ -12,30 +12,36 @@ use Rattle.session.specs.Session.{digitsHeld}
 use Rattle.set.specs.declared.Set.{Set}
 use Rattle.set.specs.Sound.{sound}
 
+-- the test's parts, in its order
+pub record Ranges (s : Set) : Type 0 where
+  pub digits : s .session .digits .len ≤ 76
+  pub state : soundState (s .session .stage) (digitsHeld (s .session)) (s .rate) ≡ true
+  pub processor : processor.sound (s .processor) ≡ true
+  pub count : s .session .m ≤ 5000000
+  pub shown : s .session .shown ≤ 9
+
+pub ranges : (s : Set) → sound s ≡ true → Ranges s
+unfolding sound
+ranges s h =
+    let (digits, rest) = and-eq-true-iff (leb (s .session .digits .len) 76) _ .0 h in
+    let (state, rest₂) = and-eq-true-iff (soundState (s .session .stage) (digitsHeld (s .session)) (s .rate)) _ .0 rest in
+    let (good, rest₃) = and-eq-true-iff (processor.sound (s .processor)) _ .0 rest₂ in
+    let (count, shown) = and-eq-true-iff (leb (s .session .m) 5000000) _ .0 rest₃ in
+    record { digits = leb-true _ _ digits; state = state; processor = good; count = leb-true _ _ count; shown = leb-true _ _ shown }
+
+pub in-ranges : (s : Set) → Ranges s → sound s ≡ true
+unfolding sound
+in-ranges s p = rw (le-leb _ _ (p .digits), p .state, p .processor, le-leb _ _ (p .count), le-leb _ _ (p .shown))
+
 module _ (s : Set) (h : sound s ≡ true) where
-  -- the test's parts, in its order
-  record Parts : Type 0 where
-    digits : leb (s .session .digits .len) 76 ≡ true
-    state : soundState (s .session .stage) (digitsHeld (s .session)) (s .rate) ≡ true
-    processor : processor.sound (s .processor) ≡ true
-    count : leb (s .session .m) 5000000 ≡ true
-
-  parts : Parts
-  unfolding sound
-  parts =
-      let (digits, rest) = and-eq-true-iff (leb (s .session .digits .len) 76) _ .0 h in
-      let (state, rest₂) = and-eq-true-iff (soundState (s .session .stage) (digitsHeld (s .session)) (s .rate)) _ .0 rest in
-      let (good, rest₃) = and-eq-true-iff (processor.sound (s .processor)) _ .0 rest₂ in
-      record { digits = digits; state = state; processor = good; count = and-eq-true-iff (leb (s .session .m) 5000000) _ .0 rest₃ .0 }
-
   pub sound-digits : s .session .digits .len ≤ 76
-  sound-digits = leb-true _ _ (parts .digits)
+  sound-digits = ranges s h .digits
 
   pub sound-processor : processor.sound (s .processor) ≡ true
-  sound-processor = parts .processor
+  sound-processor = ranges s h .processor
 
   pub sound-count : s .session .m ≤ 5000000
-  sound-count = leb-true _ _ (parts .count)
+  sound-count = ranges s h .count
 
   pub sound-rate : (8000 ≤ s .rate) × (s .rate ≤ 192000)
-  sound-rate = let p = sound-apart _ _ _ (parts .state) in (rate-low (s .rate) (p .rate), rate-high (s .rate) (p .rate))
+  sound-rate = let p = sound-apart _ _ _ (ranges s h .state) in (rate-low (s .rate) (p .rate), rate-high (s .rate) (p .rate))

@@ -1,4 +1,4 @@
--- 01, "The list of demand 3": the book, kept from the rate r, the calls and their arguments alone. It never reads the set.
+-- 01, "The list of demand 3": the book, consistent from the rate r, the calls and their arguments alone. It never reads the set.
 use Prim.Native.Nat.{ℕ, zero, suc, _+_}
 use mathlib.Core.Bool.{Bool, true, false}
 use mathlib.Core.List.{List, []}
@@ -62,12 +62,6 @@ fillRefusal false Idle = 0
 fillRefusal false Dialling = 0
 fillRefusal false Answering = 0
 
-abbrev pub declinedWith : Book → Call → ℕ
-declinedWith k (typing byte carrier room) = typingRefusal (leb 4 room) (lineFull (k .processor) byte)
-declinedWith k (time ns carrier) = 0
-declinedWith k forcing = 0
-declinedWith k (filling b) = fillRefusal (ltb 65536 b) (k .state)
-
 -- ---- typing, time and forced data step its AT processor
 abbrev pub fedBy : Book → ℕ → Bool → ℕ → Fed
 fedBy k byte carrier room = typedByte (k .processor) byte (heardIn (k .state) carrier) room
@@ -90,28 +84,57 @@ shownBy digits r count zero = stageOfSample digits r (suc count)
 shownBy digits r count (suc b) = stageOfSample digits r (count + suc b)
 
 -- if that is 10, the line is up: state 3, shown stage 0
-abbrev pub lit : (up : Bool) → ℕ → ℕ → Book → Book
-lit true stage count k = record { processor = k .processor; state = Connected; digits = k .digits; count = count; shown = 0 }
-lit false stage count k = record { processor = k .processor; state = Dialling; digits = k .digits; count = count; shown = stage }
+abbrev pub stateIf : (up : Bool) → SessionState
+stateIf true = Connected
+stateIf false = Dialling
+
+abbrev pub shownIf : (up : Bool) → ℕ → ℕ
+shownIf true stage = 0
+shownIf false stage = stage
+
+abbrev pub afterFill : (up : Bool) → ℕ → ℕ → Book → Book
+afterFill up stage count k = record { processor = k .processor; state = stateIf up; digits = k .digits; count = count; shown = shownIf up stage }
 
 -- any other fill leaves the book as it is
 abbrev pub filledIn : SessionState → ℕ → Book → ℕ → Book
 filledIn Dialling r k b =
-    lit (eqb (shownBy (k .digits) r (k .count) b) 10) (shownBy (k .digits) r (k .count) b) (k .count + b) k
+    afterFill (eqb (shownBy (k .digits) r (k .count) b) 10) (shownBy (k .digits) r (k .count) b) (k .count + b) k
 filledIn Idle r k b = k
 filledIn Answering r k b = k
 filledIn Connected r k b = k
 
-abbrev pub taken : ℕ → Book → Call → Book
-taken r k (typing byte carrier room) = applied (fedBy k byte carrier room .control) (afterAtdt (fedBy k byte carrier room)) (fedBy k byte carrier room .processor) k
-taken r k (time ns carrier) = applied (lapsedBy k ns carrier .control) [] (lapsedBy k ns carrier .processor) k
-taken r k forcing = applied Nothing [] (forcedData (k .processor)) k
-taken r k (filling b) = filledIn (k .state) r k b
+-- ---- what a call comes to in the book: it is declined with a number; the AT processor steps and asks for something; or samples are filled
+pub data Entry : Type 0 where
+  declined : (number : ℕ) → Entry
+  asks : (control : Control) (line : List ℕ) (p : AtProcessor) → Entry
+  fills : (b : ℕ) → Entry
 
--- a call declined with 2, 3, 4 or 5 changes nothing in it
-abbrev pub unlessDeclined : ℕ → Book → Book → Book
-unlessDeclined zero k next = next
-unlessDeclined (suc number) k next = k
+abbrev pub unlessDeclined : ℕ → Entry → Entry
+unlessDeclined zero entry = entry
+unlessDeclined (suc number) entry = declined (suc number)
+
+unfoldable pub entryOf : Book → Call → Entry
+entryOf k (typing byte carrier room) =
+    let fed = fedBy k byte carrier room in
+    unlessDeclined (typingRefusal (leb 4 room) (lineFull (k .processor) byte)) (asks (fed .control) (afterAtdt fed) (fed .processor))
+entryOf k (time ns carrier) = asks (lapsedBy k ns carrier .control) [] (lapsedBy k ns carrier .processor)
+entryOf k forcing = asks Nothing [] (forcedData (k .processor))
+entryOf k (filling b) = unlessDeclined (fillRefusal (ltb 65536 b) (k .state)) (fills b)
+
+-- the number that it is declined with; 0 for none
+abbrev pub numberOf : Entry → ℕ
+numberOf (declined number) = number
+numberOf (asks control line p) = 0
+numberOf (fills b) = 0
+
+-- a call declined with 2, 3, 4 or 5 changes nothing in the book
+abbrev pub nextBook : ℕ → Book → Entry → Book
+nextBook r k (declined number) = k
+nextBook r k (asks control line p) = applied control line p k
+nextBook r k (fills b) = filledIn (k .state) r k b
+
+abbrev pub declinedWith : Book → Call → ℕ
+declinedWith k call = numberOf (entryOf k call)
 
 unfoldable pub entered : ℕ → Book → Call → Book
-entered r k call = unlessDeclined (declinedWith k call) k (taken r k call)
+entered r k call = nextBook r k (entryOf k call)

@@ -2,3 +2,4 @@ pub mod Refusals
 pub mod Sound
 pub mod Set
 pub mod Book
+pub mod Event

@@ -8,6 +8,7 @@ use lib.ListN.{length}
 use lib.Ieee.{Float}
 use Rattle.ascii.specs.Front.{put}
 use Rattle.reply.specs.declared.Reply.the-variants as reply
+use Rattle.at.specs.declared.AtProcessor.{AtProcessor}
 use Rattle.at.specs.declared.Outcome.{Outcome}
 use Rattle.at.specs.declared.Fed.{Fed}
 use Rattle.at.specs.Processor.{fresh}
@@ -31,6 +32,10 @@ use Rattle.set.specs.Sound.{sound}
 abbrev pub freshSet : ℕ → Set
 freshSet r = record { rate = r; processor = fresh; session = idle }
 
+-- a call changes the AT processor and the session, and nothing else
+abbrev pub moved : Set → AtProcessor → Session → Set
+moved s processor session = record { rate = s .rate; processor = processor; session = session }
+
 -- creation: a rate outside limits gives 1 and a fresh set at 8,000
 abbrev pub madeIf : Bool → ℕ → Made
 madeIf true r = record { set = freshSet r; refusal = Accepted }
@@ -46,7 +51,7 @@ byteDeclined cause s = record { set = s; refusal = cause; reply = reply.None; se
 abbrev pub byteTaken : Set → Fed → Typed
 byteTaken s fed =
     record {
-      set = record { rate = s .rate; processor = fed .processor; session = controlled (fed .control) (s .session) (afterAtdt fed) (s .rate) };
+      set = moved s (fed .processor) (controlled (fed .control) (s .session) (afterAtdt fed) (s .rate));
       refusal = Accepted;
       reply = fed .reply;
       sent = fed .sent;
@@ -77,7 +82,7 @@ outbox s byte was = outboxIf (sound s) (leb 4 (length was)) (lineFull (s .proces
 abbrev pub lapseTaken : Set → Outcome → Lapsed
 lapseTaken s o =
     record {
-      set = record { rate = s .rate; processor = o .processor; session = controlled (o .control) (s .session) [] (s .rate) };
+      set = moved s (o .processor) (controlled (o .control) (s .session) [] (s .rate));
       refusal = Accepted;
       reply = o .reply;
     }
@@ -92,8 +97,7 @@ lapsed s ns carrier = lapsedIf (sound s) s ns carrier
 -- forced data mode: 6
 abbrev pub forcedIf : Bool → Set → Forced
 forcedIf false s = record { set = s; refusal = Unsound }
-forcedIf true s =
-    record { set = record { rate = s .rate; processor = forcedData (s .processor); session = s .session }; refusal = Accepted }
+forcedIf true s = record { set = moved s (forcedData (s .processor)) (s .session); refusal = Accepted }
 
 unfoldable pub forced : Set → Forced
 forced s = forcedIf (sound s) s
@@ -103,8 +107,7 @@ abbrev pub fillIf : Bool → Bool → Bool → Set → ℕ → Filled
 fillIf false long up s b = record { set = s; refusal = Unsound }
 fillIf true true up s b = record { set = s; refusal = Length }
 fillIf true false true s b = record { set = s; refusal = Connected }
-fillIf true false false s b =
-    record { set = record { rate = s .rate; processor = s .processor; session = filled (s .session) b (s .rate) }; refusal = Accepted }
+fillIf true false false s b = record { set = moved s (s .processor) (filled (s .session) b (s .rate)); refusal = Accepted }
 
 -- whether the line is up: state 3
 abbrev pub isUp : Session → Bool

@@ -1,0 +1,301 @@
+-- What a book follows of a set, and that each call, by its definition, takes such a set to one of which the book's next entry follows the same. By
+-- cases of the causes, the control and the state. A field that is not named here is no part of it. Assumes nothing.
+use Prim.Native.Nat.{ℕ, zero, suc, _+_, _≤_, zero-le}
+use native.Mathlib.Nat.{add-suc}
+use native.Mathlib.Omega.{arith}
+use mathlib.Core.Path.{_≡_, refl, sym, ap, _∙_}
+use mathlib.Core.Bool.{Bool, true, false}
+use mathlib.Core.List.{List, []}
+use lib.Dec.{leb, ltb, eqb}
+use lib.Ieee.{Float}
+use lib.ListN.{length}
+use borrow.Author.Tests.{ltb-false, eqb-false}
+use Rattle.keys.specs.Keys.{held, digitsOf}
+use Rattle.keys.proofs.Line.{digits-whole, padded-front}
+use Rattle.stage.specs.declared.Stage.{Stage}
+use Rattle.stage.specs.declared.Stage.the-variants as stage
+use Rattle.stage.specs.declared.StageState.{StageState}
+use Rattle.stage.specs.declared.StageState.the-variants as at
+use Rattle.stage.specs.Stage.{stageOf, stageNumber}
+use Rattle.overture.specs.Iteration.{fresh, after, samples, shownAfter}
+use Rattle.overture.proofs.Iteration.{after-add}
+use Rattle.soundness.proofs.Next.{sound-apart}
+use Rattle.soundness.proofs.Held.{enter-held}
+use Rattle.soundness.proofs.Enter.{enter-sound}
+use Rattle.at.specs.declared.AtProcessor.{AtProcessor}
+use Rattle.at.specs.declared.Control.{Control}
+use Rattle.at.specs.declared.Control.the-variants.{Nothing, Dial, Answer, Hangup}
+use Rattle.at.specs.Processor as processor
+use Rattle.at.specs.At.{typedByte, afterAtdt, lapse, forcedData, lineFull}
+use Rattle.at.proofs.Sound.{sound-typed, sound-lapse, sound-forced}
+use Rattle.session.specs.declared.SessionState.{SessionState}
+use Rattle.session.specs.declared.SessionState.the-variants.{Idle, Dialling, Answering, Connected}
+use Rattle.session.specs.Session as session
+use Rattle.session.specs.Session.{stateNumber, idle, answering, dialling, digitsHeld, connects, shownState, shownNumber, showing, filled, written}
+use Rattle.set.specs.declared.Set.{Set}
+use Rattle.set.specs.declared.Refusal.{Refusal}
+use Rattle.set.specs.Refusals.{refusalNumber}
+use Rattle.set.specs.Sound.{sound}
+use Rattle.control.specs.Control.{heardIn, heard, controlled}
+use Rattle.set.specs.Set.{moved, typedIf, typed, lapsed, forced, isUp, fillIf, fill, bufferIf, buffer}
+use Rattle.set.specs.Book.{typing, time, forcing, filling, Book, stageOfSample, typingRefusal, fillRefusal, fedBy, lapsedBy, applied, shownBy, stateIf, shownIf, afterFill, filledIn, Entry, declined, asks, fills, unlessDeclined, entryOf, numberOf, nextBook}
+use Rattle.set.proofs.Ranges.{ranges, in-ranges}
+use Rattle.set.proofs.Soundness.{after-sound, few-typed, typing-sound, lapse-sound, forced-sound}
+
+-- where nothing is dialled no samples are to come; else the state is `count` samples into the overture
+abbrev pub stageIn : SessionState → ℕ → List ℕ → ℕ → StageState
+stageIn Idle r digits count = at.Connected
+stageIn Answering r digits count = at.Connected
+stageIn Dialling r digits count = after count (fresh digits r) digits r
+stageIn Connected r digits count = after count (fresh digits r) digits r
+
+pub record Follows (r : ℕ) (k : Book) (s : Set) : Type 0 where
+  pub rate : s .rate ≡ r
+  pub processor : s .processor ≡ k .processor
+  pub state : s .session .state ≡ k .state
+  pub digits : s .session .digits ≡ held (k .digits)
+  pub count : s .session .m ≡ k .count
+  pub shown : s .session .shown ≡ k .shown
+  pub stage : s .session .stage ≡ stageIn (k .state) r (k .digits) (k .count)
+
+-- a fill in Dialling writes the samples count + 1 to count + b
+abbrev pub Wrote : ℕ → Book → Entry → List Float → Type 0
+Wrote r k (declined number) left = Unit {0}
+Wrote r k (asks control line p) left = Unit {0}
+Wrote r k (fills b) left = k .state ≡ Dialling → left ≡ samples b (after (k .count) (fresh (k .digits) r) (k .digits) r) (k .digits) r
+
+-- a number that is not 6, a sound processor and a line that fits, or a buffer that is not too long
+abbrev pub InLimits : Entry → Type 0
+InLimits (declined number) = number ≡ 6 → ⊥
+InLimits (asks control line p) = (length line ≤ 76) × (processor.sound p ≡ true)
+InLimits (fills b) = b ≤ 65536
+
+-- what a call does that comes to the entry
+pub record Effect (r : ℕ) (k : Book) (entry : Entry) (next : Set) (refusal : Refusal) (left : List Float) : Type 0 where
+  pub follows : Follows r (nextBook r k entry) next
+  pub sound : sound next ≡ true
+  pub number : refusalNumber refusal ≡ numberOf entry
+  pub limits : InLimits entry
+  pub wrote : Wrote r k entry left
+
+-- a sound set of which the book follows that, and of whose call a fill more can be counted
+pub record Invariant (r : ℕ) (k : Book) (s : Set) : Type 0 where
+  pub follows : Follows r k s
+  pub sound : sound s ≡ true
+  pub room : k .state ≡ Dialling → k .count + 65536 ≤ 5000000
+
+-- ---- what the AT processor asks
+module _ (r : ℕ) (k : Book) (s : Set) (f : Follows r k s) where
+  applies : (c : Control) (line : List ℕ) (p : AtProcessor) → length line ≤ 76
+      → Follows r (applied c line p k) (moved s p (controlled c (s .session) line (s .rate)))
+  unfolding controlled dialling idle answering after
+  applies Nothing line p short =
+      record { rate = f .rate; processor = refl; state = f .state; digits = f .digits; count = f .count; shown = f .shown; stage = f .stage }
+  applies Answer line p short = record { rate = f .rate; processor = refl; state = refl; digits = refl; count = refl; shown = refl; stage = refl }
+  applies Hangup line p short = record { rate = f .rate; processor = refl; state = refl; digits = refl; count = refl; shown = refl; stage = refl }
+  applies Dial line p short =
+      record {
+        rate = f .rate;
+        processor = refl;
+        state = refl;
+        digits = ap held (digits-whole line short);
+        count = refl;
+        shown = refl;
+        stage = rw (f .rate, digits-whole line short) (ap (λ (ds : List ℕ). fresh ds r) (padded-front (digitsOf line)));
+      }
+
+  same-fed : (byte : ℕ) (carrier : Bool) (n : ℕ) → typedByte (s .processor) byte (heard (s .session) carrier) n ≡ fedBy k byte carrier n
+  unfolding heard
+  same-fed byte carrier n = rw (f .processor, f .state)
+
+  same-lapse : (ns : ℕ) (carrier : Bool) → lapse (s .processor) ns (heard (s .session) carrier) ≡ lapsedBy k ns carrier
+  unfolding heard
+  same-lapse ns carrier = rw (f .processor, f .state)
+
+module _ (r : ℕ) (k : Book) (s : Set) (inv : Invariant r k s) where
+  good : processor.sound (k .processor) ≡ true
+  good = rw (inv .follows .processor) at (ranges s (inv .sound) .processor)
+
+  typing-by : (room full : Bool) (byte : ℕ) (carrier : Bool) (n : ℕ)
+      → let fed = fedBy k byte carrier n in
+      (sound (typedIf true room full s byte carrier n .set) ≡ true)
+      → Effect r k (unlessDeclined (typingRefusal room full) (asks (fed .control) (afterAtdt fed) (fed .processor)))
+      (typedIf true room full s byte carrier n .set) (typedIf true room full s byte carrier n .refusal) []
+  unfolding refusalNumber
+  typing-by false full byte carrier n next = record { follows = inv .follows; sound = next; number = refl; limits = λ six. omega arith; wrote = tt }
+  typing-by true true byte carrier n next = record { follows = inv .follows; sound = next; number = refl; limits = λ six. omega arith; wrote = tt }
+  typing-by true false byte carrier n next =
+      record {
+        follows = rw (same-fed r k s (inv .follows) byte carrier n) (applies r k s (inv .follows) (fedBy k byte carrier n .control) _ _ (few-typed (k .processor) good byte (heardIn (k .state) carrier) n));
+        sound = next;
+        number = refl;
+        limits = (few-typed (k .processor) good byte (heardIn (k .state) carrier) n, sound-typed (k .processor) byte (heardIn (k .state) carrier) n good);
+        wrote = tt;
+      }
+
+  pub typing-effect : (byte : ℕ) (carrier : Bool) (n : ℕ)
+      → Effect r k (entryOf k (typing byte carrier n)) (typed s byte carrier n .set) (typed s byte carrier n .refusal) []
+  unfolding typed entryOf
+  typing-effect byte carrier n =
+      let full : lineFull (s .processor) byte ≡ lineFull (k .processor) byte = ap (λ (p : AtProcessor). lineFull p byte) (inv .follows .processor) in
+      rw (inv .sound, full)
+      (typing-by (leb 4 n) (lineFull (k .processor) byte) byte carrier n (rw (inv .sound, full) at (typing-sound s (inv .sound) byte carrier n)))
+
+  pub time-effect : (ns : ℕ) (carrier : Bool)
+      → Effect r k (entryOf k (time ns carrier)) (lapsed s ns carrier .set) (lapsed s ns carrier .refusal) []
+  unfolding lapsed entryOf refusalNumber
+  time-effect ns carrier =
+      record {
+        follows = rw (inv .sound, same-lapse r k s (inv .follows) ns carrier) (applies r k s (inv .follows) (lapsedBy k ns carrier .control) [] _ zero-le);
+        sound = lapse-sound s (inv .sound) ns carrier;
+        number = rw (inv .sound);
+        limits = (zero-le, sound-lapse (k .processor) ns (heardIn (k .state) carrier) good);
+        wrote = tt;
+      }
+
+  pub forcing-effect : Effect r k (entryOf k forcing) (forced s .set) (forced s .refusal) []
+  unfolding forced entryOf refusalNumber controlled
+  forcing-effect =
+      record {
+        follows = rw (inv .sound, ap forcedData (inv .follows .processor)) (applies r k s (inv .follows) Nothing [] (forcedData (k .processor)) zero-le);
+        sound = forced-sound s (inv .sound);
+        number = rw (inv .sound);
+        limits = (zero-le, sound-forced (k .processor) good);
+        wrote = tt;
+      }
+
+-- ---- a fill in Dialling
+shown-stage : (digits : List ℕ) (r count b : ℕ)
+    → stageNumber (shownAfter b (after count (fresh digits r) digits r) digits r) ≡ shownBy digits r count b
+unfolding stageOfSample
+shown-stage digits r count zero = refl
+shown-stage digits r count (suc b) =
+    rw add-suc (ap (λ (x : StageState). stageNumber (stageOf x)) (sym (after-add digits r count b (fresh digits r))))
+
+at-most-10 : (x : Stage) → stageNumber x ≤ 10
+at-most-10 stage.OffHook = omega arith
+at-most-10 stage.DialTone = omega arith
+at-most-10 stage.Dialling = omega arith
+at-most-10 stage.Ringback = omega arith
+at-most-10 stage.Ci = omega arith
+at-most-10 stage.Ansam = omega arith
+at-most-10 stage.CmJm = omega arith
+at-most-10 stage.Cj = omega arith
+at-most-10 stage.Training = omega arith
+at-most-10 stage.Connected = omega arith
+
+shown-most : (up : Bool) (x : Stage) → eqb (stageNumber x) 10 ≡ up → shownNumber up x ≤ 9
+shown-most true x e = zero-le
+shown-most false x e = least (stageNumber x) (at-most-10 x) (eqb-false _ 10 e)
+  where
+    least : (n : ℕ) → n ≤ 10 → (n ≡ 10 → ⊥) → n ≤ 9
+    least n l d = omega arith
+
+module _ (r : ℕ) (p : AtProcessor) (digits : List ℕ) (count shown : ℕ) (s : Set) where
+  abbrev playing : Book
+  playing = record { processor = p; state = Dialling; digits = digits; count = count; shown = shown }
+
+  module _ (inv : Invariant r playing s) (b : ℕ) where
+    f : Follows r playing s
+    f = inv .follows
+
+    held-digits : digitsHeld (s .session) ≡ digits
+    held-digits = rw (f .digits) (padded-front digits)
+
+    shows : stageNumber (shownAfter b (s .session .stage) (digitsHeld (s .session)) (s .rate)) ≡ shownBy digits r count b
+    shows = rw (held-digits, f .stage, f .rate) (shown-stage digits r count b)
+
+    onward : after b (s .session .stage) (digitsHeld (s .session)) (s .rate) ≡ after (count + b) (fresh digits r) digits r
+    onward = rw (held-digits, f .stage, f .rate) (sym (after-add digits r count b (fresh digits r)))
+
+    writes : samples b (s .session .stage) (digitsHeld (s .session)) (s .rate) ≡ samples b (after count (fresh digits r) digits r) digits r
+    writes = rw (held-digits, f .stage, f .rate)
+
+    abbrev next : Stage → StageState → Set
+    next x st = moved s (s .processor) (showing (s .session) x b st)
+
+    same-state : (up : Bool) → shownState up ≡ stateIf up
+    same-state true = refl
+    same-state false = refl
+
+    same-shown : (up : Bool) (x : Stage) → shownNumber up x ≡ shownIf up (stageNumber x)
+    same-shown true x = refl
+    same-shown false x = refl
+
+    same-stage : (up : Bool) → stageIn (stateIf up) r digits (count + b) ≡ after (count + b) (fresh digits r) digits r
+    same-stage true = refl
+    same-stage false = refl
+
+    filled-follows : (x : Stage) (st : StageState) → stageNumber x ≡ shownBy digits r count b → st ≡ after (count + b) (fresh digits r) digits r
+        → Follows r (afterFill (eqb (shownBy digits r count b) 10) (shownBy digits r count b) (count + b) playing) (next x st)
+    unfolding connects
+    filled-follows x st e g =
+        record {
+          rate = f .rate;
+          processor = f .processor;
+          state = rw (← e) (same-state (eqb (stageNumber x) 10));
+          digits = f .digits;
+          count = ap (λ (n : ℕ). n + b) (f .count);
+          shown = rw (← e) (same-shown (eqb (stageNumber x) 10) x);
+          stage = g ∙ sym (same-stage (eqb (shownBy digits r count b) 10));
+        }
+
+    filled-sound : (x : Stage) (st : StageState) → b ≤ 65536 → st ≡ after (count + b) (fresh digits r) digits r → sound (next x st) ≡ true
+    unfolding connects
+    filled-sound x st short g =
+        let q = ranges s (inv .sound) in
+        let parts = sound-apart _ _ _ (q .state) in
+        in-ranges _ (record {
+          digits = q .digits;
+          state = rw (g, held-digits, f .rate) (after-sound digits r (count + b) (fresh digits r) (enter-held _ digits r) (enter-sound _ digits r (rw (f .rate) at (parts .rate)) (rw held-digits at (parts .keys))));
+          processor = q .processor;
+          count = within (s .session .m) (f .count) (inv .room refl) short;
+          shown = shown-most (eqb (stageNumber x) 10) x refl;
+        })
+      where
+        within : (m : ℕ) → m ≡ count → count + 65536 ≤ 5000000 → b ≤ 65536 → m + b ≤ 5000000
+        within m e l h = omega arith
+
+idle-differs : stateNumber Idle ≡ stateNumber Dialling → ⊥
+unfolding stateNumber
+idle-differs e = omega arith
+
+answering-differs : stateNumber Answering ≡ stateNumber Dialling → ⊥
+unfolding stateNumber
+answering-differs e = omega arith
+
+filling-by : (r : ℕ) (long : Bool) (p : AtProcessor) (state : SessionState) (digits : List ℕ) (count shown b : ℕ) (s : Set) (was : List Float) → length was ≡ b → ltb 65536 b ≡ long
+    → let book : Book = record { processor = p; state = state; digits = digits; count = count; shown = shown } in
+    Invariant r book s
+    → Effect r book (unlessDeclined (fillRefusal long state) (fills b)) (fillIf true long (isUp (s .session)) s b .set) (fillIf true long (isUp (s .session)) s b .refusal) (bufferIf true long (isUp (s .session)) s was)
+unfolding refusalNumber stateNumber filled written
+filling-by r true p state digits count shown b s was l e inv = record { follows = inv .follows; sound = inv .sound; number = refl; limits = λ six. omega arith; wrote = tt }
+filling-by r false p Connected digits count shown b s was l e inv =
+    let up : isUp (s .session) ≡ true = rw (inv .follows .state) in
+    rw up (record { follows = inv .follows; sound = inv .sound; number = refl; limits = λ six. omega arith; wrote = tt })
+filling-by r false p Idle digits count shown b s was l e inv =
+    let up : isUp (s .session) ≡ false = rw (inv .follows .state) in
+    let same : filled (s .session) b (s .rate) ≡ s .session = ap (λ (st : SessionState). session.filledIn st (s .session) b (s .rate)) (inv .follows .state) in
+    rw (up, same) (record { follows = inv .follows; sound = inv .sound; number = refl; limits = ltb-false 65536 b e; wrote = λ (d : Idle ≡ Dialling). absurd (idle-differs (ap stateNumber d)) })
+filling-by r false p Answering digits count shown b s was l e inv =
+    let up : isUp (s .session) ≡ false = rw (inv .follows .state) in
+    let same : filled (s .session) b (s .rate) ≡ s .session = ap (λ (st : SessionState). session.filledIn st (s .session) b (s .rate)) (inv .follows .state) in
+    rw (up, same) (record { follows = inv .follows; sound = inv .sound; number = refl; limits = ltb-false 65536 b e; wrote = λ (d : Answering ≡ Dialling). absurd (answering-differs (ap stateNumber d)) })
+filling-by r false p Dialling digits count shown b s was l e inv =
+    let up : isUp (s .session) ≡ false = rw (inv .follows .state) in
+    let same = ap (λ (st : SessionState). session.filledIn st (s .session) b (s .rate)) (inv .follows .state) in
+    let wrote = ap (λ (st : SessionState). session.writtenIn st (s .session) (length was) (s .rate)) (inv .follows .state) in
+    rw (up, same, wrote, l) (record {
+      follows = filled-follows r p digits count shown s inv b _ _ (shows r p digits count shown s inv b) (onward r p digits count shown s inv b);
+      sound = filled-sound r p digits count shown s inv b _ _ (ltb-false 65536 b e) (onward r p digits count shown s inv b);
+      number = refl;
+      limits = ltb-false 65536 b e;
+      wrote = λ (d : Dialling ≡ Dialling). writes r p digits count shown s inv b;
+    })
+
+pub filling-effect : (r : ℕ) (k : Book) (s : Set) → Invariant r k s → (was : List Float)
+    → Effect r k (entryOf k (filling (length was))) (fill s (length was) .set) (fill s (length was) .refusal) (buffer s was)
+unfolding fill buffer entryOf
+filling-effect r k s inv was =
+    rw (inv .sound)
+    (filling-by r (ltb 65536 (length was)) (k .processor) (k .state) (k .digits) (k .count) (k .shown) (length was) s was refl refl inv)

@@ -1,0 +1,90 @@
+-- A typed byte, a lapse of time and forced data mode leave every sound set sound, whether calls can reach it or not; and so does a fill that
+-- keeps the count within 5,000,000. By cases of the causes and of what the AT processor asks. Assumes nothing.
+use Prim.Native.Nat.{ℕ, zero, suc, _≤_, zero-le}
+use native.Mathlib.Nat.{le-trans}
+use mathlib.Core.Path.{_≡_}
+use mathlib.Core.Bool.{Bool, true, false}
+use mathlib.Core.List.{List, []}
+use lib.Dec.{leb}
+use lib.ListN.{length}
+use borrow.Author.Tests.{le-leb}
+use Rattle.keys.specs.Keys.{allKeys, digitsOf}
+use Rattle.keys.proofs.Line.{all-digits, digits-fewer, digits-whole, padded-front}
+use Rattle.stage.specs.declared.StageState.{StageState}
+use Rattle.stage.specs.Next.{stateNext}
+use Rattle.overture.specs.Iteration.{after}
+use Rattle.soundness.specs.Sound.{rateOk, digitsOk, stateOk, soundState}
+use Rattle.soundness.proofs.Held.{Held, next-held}
+use Rattle.soundness.proofs.Next.{sound-apart, next-sound}
+use Rattle.soundness.proofs.Enter.{enter-sound}
+use Rattle.at.specs.declared.AtProcessor.{AtProcessor}
+use Rattle.at.specs.declared.Control.{Control}
+use Rattle.at.specs.declared.Control.the-variants.{Nothing, Dial, Answer, Hangup}
+use Rattle.at.specs.Processor as processor
+use Rattle.at.specs.At.{typedByte, afterAtdt, lineFull}
+use Rattle.at.proofs.Lines.{line-ended}
+use Rattle.at.proofs.Sound.{sound-typed, sound-lapse, sound-forced}
+use Rattle.session.specs.Session.{idle, answering, dialling}
+use Rattle.control.specs.Control.{heard, controlled}
+use Rattle.control.proofs.Prefix.{few-after}
+use Rattle.set.specs.declared.Set.{Set}
+use Rattle.set.specs.Sound.{sound}
+use Rattle.set.specs.Set.{moved, typedIf, typed, lapsed, forced}
+use Rattle.set.proofs.Ranges.{ranges, in-ranges}
+
+-- however many samples a fill writes, the state of the stage stays sound
+pub after-sound : (digits : List ℕ) (r k : ℕ) (s : StageState) → Held s → soundState s digits r ≡ true → soundState (after k s digits r) digits r ≡ true
+unfolding after
+after-sound digits r zero s h e = e
+after-sound digits r (suc k) s h e = after-sound digits r k (stateNext s digits r) (next-held s digits r h) (next-sound s digits r h e)
+
+-- a line has at most 76 bytes after ATDT, so no digit is lost
+pub few-typed : (p : AtProcessor) → processor.sound p ≡ true → (byte : ℕ) (carrier : Bool) (room : ℕ) → length (afterAtdt (typedByte p byte carrier room)) ≤ 76
+few-typed p good byte carrier room = few-after (typedByte p byte carrier room) (line-ended p byte carrier room good .fits)
+
+pub dialled-ok : (line : List ℕ) → length line ≤ 76 → digitsOk (digitsOf line) ≡ true
+unfolding digitsOk
+dialled-ok line short = rw (le-leb _ _ (le-trans (digits-fewer line) short), all-digits line)
+
+module _ (s : Set) (ok : sound s ≡ true) where
+  rate-ok : rateOk (s .rate) ≡ true
+  rate-ok = sound-apart _ _ _ (ranges s ok .state) .rate
+
+  pub control-sound : (c : Control) (line : List ℕ) (p : AtProcessor) → length line ≤ 76 → processor.sound p ≡ true
+      → sound (moved s p (controlled c (s .session) line (s .rate))) ≡ true
+  unfolding controlled dialling idle answering soundState stateOk digitsOk allKeys
+  control-sound Nothing line p short good =
+      let q = ranges s ok in
+      in-ranges _ (record { digits = q .digits; state = q .state; processor = good; count = q .count; shown = q .shown })
+  control-sound Answer line p short good =
+      in-ranges _ (record { digits = zero-le; state = rw rate-ok; processor = good; count = zero-le; shown = zero-le })
+  control-sound Hangup line p short good =
+      in-ranges _ (record { digits = zero-le; state = rw rate-ok; processor = good; count = zero-le; shown = zero-le })
+  control-sound Dial line p short good =
+      in-ranges _ (record {
+        digits = rw (digits-whole line short) (le-trans (digits-fewer line) short);
+        state = rw (digits-whole line short, padded-front (digitsOf line)) (enter-sound _ (digitsOf line) (s .rate) rate-ok (dialled-ok line short));
+        processor = good;
+        count = zero-le;
+        shown = zero-le;
+      })
+
+  typing-by : (room full : Bool) (byte : ℕ) (carrier : Bool) (n : ℕ) → sound (typedIf true room full s byte carrier n .set) ≡ true
+  typing-by false full byte carrier n = ok
+  typing-by true true byte carrier n = ok
+  typing-by true false byte carrier n =
+      control-sound _ _ _
+      (few-typed (s .processor) (ranges s ok .processor) byte (heard (s .session) carrier) n)
+      (sound-typed (s .processor) byte (heard (s .session) carrier) n (ranges s ok .processor))
+
+  pub typing-sound : (byte : ℕ) (carrier : Bool) (n : ℕ) → sound (typed s byte carrier n .set) ≡ true
+  unfolding typed
+  typing-sound byte carrier n = rw ok (typing-by (leb 4 n) (lineFull (s .processor) byte) byte carrier n)
+
+  pub lapse-sound : (ns : ℕ) (carrier : Bool) → sound (lapsed s ns carrier .set) ≡ true
+  unfolding lapsed
+  lapse-sound ns carrier = rw ok (control-sound _ [] _ zero-le (sound-lapse (s .processor) ns (heard (s .session) carrier) (ranges s ok .processor)))
+
+  pub forced-sound : sound (forced s .set) ≡ true
+  unfolding forced controlled
+  forced-sound = rw ok (control-sound Nothing [] _ zero-le (sound-forced (s .processor) (ranges s ok .processor)))
