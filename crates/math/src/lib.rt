@@ -12,7 +12,7 @@ ghost use Rattle.math.specs.Whole.{floorOf, roundOf};
 ghost use Rattle.math.specs.Narrow.{narrowed};
 ghost use Rattle.math.specs.Steps.{twice, narrowBits};
 
-const TAU: f64 = 6.283185307179586;
+pub const TAU: f64 = 6.283185307179586;
 
 const H: f64 = 3.141592653589793;
 

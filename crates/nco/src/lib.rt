@@ -1,10 +1,9 @@
 // A numerically controlled oscillator. Its phase runs on when the frequency changes, so a change makes no click.
+use math::TAU;
 ghost use mathlib.Core.Path.{_≡_};
 ghost use Rattle.nco.specs.Nco.{advanced, freshNco, retuned, sampleOf, steppedNco, phaseInRange};
 
 pub mod lent;
-
-const TAU: f64 = 6.283185307179586;
 
 pub struct Nco {
     pub phase: f64,

@@ -17,7 +17,7 @@ use Rattle.math.proofs.Tests.{same-test, beq-same}
 use Rattle.math.proofs.Values.{one-value, nat-value, div-by, sub-at, of-le, le-at, lt-at}
 use Rattle.math.proofs.Bounds.{AtMost, at-most, units-at-most}
 use Rattle.math.proofs.Whole.{floor-at}
-use Rattle.schedule.specs.Time.{timeAt}
+use Rattle.schedule.specs.Time.{minRate, maxRate, timeAt}
 use Rattle.schedule.specs.Dialling.{digitAt, inTone}
 use Rattle.schedule.specs.Ansam.{reversal, signBy, signAt}
 use Rattle.schedule.specs.Ringback.{ringCycle, ringOn, ringOff, ringBy, ringTimeBy, ringAt, ringTime, ringTone}
@@ -278,10 +278,10 @@ pub record Limits (r n most : ℕ) : Type 0 where
   pub few : n ≤ 0x4000_0000
   pub short : most ≤ 0x4000_0000
 
-pub limits : (r n most : ℕ) → (leb 8000 r && leb r 192000) && (leb n 0x4000_0000 && leb most 0x4000_0000) ≡ true → Limits r n most
+pub limits : (r n most : ℕ) → (leb minRate r && leb r maxRate) && (leb n 0x4000_0000 && leb most 0x4000_0000) ≡ true → Limits r n most
 limits r n most e =
-    let (rates, counts) = and-eq-true-iff (leb 8000 r && leb r 192000) _ .0 e in
-    let (slow, fast) = and-eq-true-iff (leb 8000 r) _ .0 rates in
+    let (rates, counts) = and-eq-true-iff (leb minRate r && leb r maxRate) _ .0 e in
+    let (slow, fast) = and-eq-true-iff (leb minRate r) _ .0 rates in
     let (few, short) = and-eq-true-iff (leb n 0x4000_0000) _ .0 counts in
     record { slow = leb-true _ _ slow; fast = leb-true _ _ fast; few = leb-true _ _ few; short = leb-true _ _ short }
 

@@ -1,16 +1,15 @@
 // Runs: samples in a row over which a clock of the schedule tells the same, so that a writer asks
 // it once for all of them.
+use schedule::MAX_RATE;
+use schedule::MIN_RATE;
 ghost use mathlib.Core.Path.{_≡_};
 ghost use mathlib.Core.Bool.{_&&_};
 ghost use Prim.Native.Nat.{ℕ, suc, _+_, _*_, _≤_, _<_};
 ghost use lib.Dec.{leb};
+ghost use Rattle.schedule.specs.Time.{minRate, maxRate};
 ghost use Rattle.runs.specs.Runs.{counted, Least, Before, OneSign, OneGate, OneKey, sameReversal, samePart, sameGate, sameOf, Run};
 
-// Where runs are looked for: 01's rates, and counts far above any stage's.
-const MIN_RATE: u32 = 8_000;
-
-const MAX_RATE: u32 = 192_000;
-
+// Runs are looked for at 01's rates, and up to a count far above any stage's.
 const MAX_COUNT: u32 = 0x4000_0000;
 
 // The count after c samples more.
@@ -48,7 +47,7 @@ pub fn samples_left(n: u32, end: u64, most: usize) -> usize
 
 // Whether runs are looked for: elsewhere each sample is a run.
 fn runs_known(n: u32, rate: u32, most: usize) -> bool
-    ensures { λ r. ⌜ r ≡ ((leb 8000 rate && leb rate 192000) && (leb n 0x4000_0000 && leb most 0x4000_0000)) ⌝ }
+    ensures { λ r. ⌜ r ≡ ((leb minRate rate && leb rate maxRate) && (leb n 0x4000_0000 && leb most 0x4000_0000)) ⌝ }
 {
     ((rate >= MIN_RATE) & (rate <= MAX_RATE)) & ((n <= MAX_COUNT) & (most <= MAX_COUNT as usize))
 }

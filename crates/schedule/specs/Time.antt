@@ -6,6 +6,13 @@ use lib.Ieee.{Float}
 use Rattle.math.specs.Float.{ofNat, times, over}
 use Rattle.math.specs.Whole.{roundOf}
 
+-- 01, "Kept, and made new": 8,000 to 192,000
+abbrev pub minRate : ℕ
+minRate = 8000
+
+abbrev pub maxRate : ℕ
+maxRate = 192000
+
 -- t, of r and n
 abbrev pub timeAt : ℕ → ℕ → Float
 timeAt r n = over (ofNat n) (ofNat r)

@@ -7,6 +7,11 @@ ghost use Rattle.schedule.specs.Ringback.{ringAt, ringTime, ringTone};
 ghost use Rattle.schedule.specs.Ansam.{signAt};
 ghost use Rattle.schedule.specs.Symbols.{symbolStep, symbolEnds, nextPhase};
 
+// The rates of a set.
+pub const MIN_RATE: u32 = 8_000;
+
+pub const MAX_RATE: u32 = 192_000;
+
 const DTMF_TONE_S: f64 = 0.1;
 
 const DIGIT_PERIOD_S: f64 = 0.2;

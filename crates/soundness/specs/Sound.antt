@@ -9,16 +9,16 @@ use Rattle.math.specs.Float.{ofNat, one}
 use Rattle.nco.specs.declared.Nco.{Nco}
 use Rattle.nco.specs.Nco.{phaseInRange}
 use Rattle.keys.specs.Keys.{allKeys}
-use Rattle.schedule.specs.Time.{samplesIn}
+use Rattle.schedule.specs.Time.{minRate, maxRate, samplesIn}
 use Rattle.schedule.specs.Symbols.{symbolStep, inSymbol}
 use Rattle.schedule.specs.Length.{clickTime, ringbackTime, ansamTime, cjSilence, diallingLength}
 use Rattle.fsk.specs.declared.FskChannel.{FskChannel}
 use Rattle.stage.specs.declared.StageState.{StageState}
 use Rattle.stage.specs.declared.StageState.the-variants.{OffHook, DialTone, Dialling, Ringback, Ci, Ansam, CmJm, Cj, Training, Connected}
 
--- rate in limits, 8,000 to 192,000
+-- rate in limits
 unfoldable pub rateOk : ℕ → Bool
-rateOk r = leb 8000 r && leb r 192000
+rateOk r = leb minRate r && leb r maxRate
 
 -- digits <= 76, all keys
 unfoldable pub digitsOk : List ℕ → Bool

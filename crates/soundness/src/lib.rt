@@ -2,6 +2,8 @@
 // looked for by counting: whether Dialling goes on is told by the digit at n alone.
 use fsk::FskChannel;
 use nco::Nco;
+use schedule::MAX_RATE;
+use schedule::MIN_RATE;
 use stage::StageState;
 ghost use mathlib.Core.Path.{_≡_};
 ghost use mathlib.Core.Bool.{true};
@@ -11,10 +13,6 @@ ghost use Rattle.schedule.specs.Time.{samplesIn};
 ghost use Rattle.schedule.specs.Symbols.{inSymbol};
 ghost use Rattle.schedule.specs.Length.{diallingLength};
 ghost use Rattle.soundness.specs.Sound.{rateOk, digitsOk, ncoOk, fskOk, digitOk, ringOk, tonesOk, diallingOk, ringbackOk, bitsOk, cjOk, stateOk, soundState};
-
-const MIN_RATE: u32 = 8_000;
-
-const MAX_RATE: u32 = 192_000;
 
 const MAX_DIGITS: usize = 76;
 
