@@ -1,50 +1,35 @@
 -- A key has one of the four rows and one of the four columns, so its tones are one of the four low and one of the four high ones.
--- The row that is found has the byte, and in a row that has it its place is below the row's length. Assumes nothing.
-use Prim.Native.Nat.{ℕ, zero, suc, _/_, _<_, _≤_, suc-le-suc}
-use native.Mathlib.Nat.{not-suc-le-zero, le-of-suc-le-suc, zero-lt-suc}
+-- A key's place is below 16, and a search that has passed some keys goes on among the rest. Assumes nothing.
+use Prim.Native.Nat.{ℕ, zero, suc, _+_, _<_, _≤_}
+use native.Mathlib.Nat.{not-suc-le-zero, le-of-suc-le-suc}
+use native.Mathlib.Numerals.{add-one}
 use native.Mathlib.Omega.{arith}
-use mathlib.Core.Path.{_≡_, refl, sym, _∙_}
-use mathlib.Core.Bool.{Bool, true, false, cond, _||_, true≢false}
+use mathlib.Core.Path.{_≡_, refl}
+use mathlib.Core.Bool.{true, false}
 use mathlib.Core.List.{List, [], _∷_, map}
-use lib.Dec.{eqb, ltb}
+use lib.Dec.{eqb}
 use lib.Ieee.{nan}
-use lib.ListN.{length, getD}
-use borrow.Author.Tests.{ltb-true, ltb-false, lt-ltb, le-ltb}
+use lib.ListN.{length, getD, drop, drop-of-length-le}
+use lib.Seq.{drop-cons}
+use borrow.Author.Tests.{ltb-true}
 use Rattle.keys.specs.declared.Tones.the-variants.{Key, NoKey}
-use Rattle.keys.specs.Keys.{rows, columns, keypad, isIn, rowIn, columnIn, keyRow, keyColumn, isKey, hertz, tonesOf}
+use Rattle.keys.specs.Keys.{rows, columns, placeIn, keyPlace, keyRow, keyColumn, isKey, hertz, tonesOf}
 
-quarter-at : (r : ℕ) (t : Bool) → ltb r 16 ≡ t → ltb r 16 ≡ ltb (r / 4) 4
-quarter-at r true e = let h : r < 16 = ltb-true r 16 e in e ∙ sym (lt-ltb (r / 4) 4 (omega arith))
-quarter-at r false e = let h : 16 ≤ r = ltb-false r 16 e in e ∙ sym (le-ltb (r / 4) 4 (omega arith))
+-- the search, key after key
+pub place-found : (b : ℕ) (ks : List ℕ) (i : ℕ) → i < length ks → eqb b (getD ks i 0) ≡ true → placeIn b (drop i ks) + i ≡ i
+place-found b ks i h e = rw (drop-cons ks i 0 h, e) (omega arith)
 
--- four keys to a row: place r of the keypad is in row r / 4
-pub quarter : (r : ℕ) → ltb r 16 ≡ ltb (r / 4) 4
-quarter r = quarter-at r _ refl
+pub place-passed : (b : ℕ) (ks : List ℕ) (i : ℕ) → i < length ks → eqb b (getD ks i 0) ≡ false → placeIn b (drop i ks) + i ≡ placeIn b (drop (i + 1) ks) + (i + 1)
+place-passed b ks i h e = rw (add-one, drop-cons ks i 0 h, e) (omega arith)
+
+pub place-none : (b : ℕ) (ks : List ℕ) (i : ℕ) → length ks ≤ i → placeIn b (drop i ks) + i ≡ i
+place-none b ks i h = rw (drop-of-length-le ks h) (omega arith)
 
 -- the frequencies as the code has them
 pub tone-at : (ns : List ℕ) (k : ℕ) → k < length ns → getD (map hertz ns) k nan ≡ hertz (getD ns k 0)
 tone-at [] k h = absurd (not-suc-le-zero h)
 tone-at (n ∷ ns) zero h = refl
 tone-at (n ∷ ns) (suc k) h = tone-at ns k (le-of-suc-le-suc h)
-
-column-step : (b : ℕ) (ks : List ℕ) (t : Bool) → (isIn b ks ≡ true → columnIn b ks < length ks)
-    → t || isIn b ks ≡ true → cond t 0 (suc (columnIn b ks)) < suc (length ks)
-column-step b ks true below e = zero-lt-suc (length ks)
-column-step b ks false below e = suc-le-suc (below e)
-
-column-below : (b : ℕ) (ks : List ℕ) → isIn b ks ≡ true → columnIn b ks < length ks
-column-below b [] e = absurd (true≢false (sym e))
-column-below b (k ∷ ks) e = column-step b ks (eqb b k) (column-below b ks) e
-
-row-step : (b : ℕ) (ks : List ℕ) (g : List (List ℕ)) (t : Bool) → isIn b ks ≡ t
-    → (rowIn b g < length g → isIn b (getD g (rowIn b g) []) ≡ true)
-    → cond t 0 (suc (rowIn b g)) < suc (length g) → isIn b (getD (ks ∷ g) (cond t 0 (suc (rowIn b g))) []) ≡ true
-row-step b ks g true e has h = e
-row-step b ks g false e has h = has (le-of-suc-le-suc h)
-
-row-has : (b : ℕ) (g : List (List ℕ)) → rowIn b g < length g → isIn b (getD g (rowIn b g) []) ≡ true
-row-has b [] h = absurd (not-suc-le-zero h)
-row-has b (ks ∷ g) h = row-step b ks g (isIn b ks) refl (row-has b g) h
 
 each-of-four : (P : ℕ → Type 0) → P 0 → P 1 → P 2 → P 3 → (k : ℕ) → k < 4 → P k
 each-of-four P p q r s zero h = p
@@ -55,18 +40,12 @@ each-of-four P p q r s (suc (suc (suc (suc k)))) h = absurd (let z : ⊥ = omega
 
 module _ (b : ℕ) (key : isKey b ≡ true) where
   pub key-row : keyRow b < 4
-  unfolding isKey
-  key-row = ltb-true (keyRow b) 4 key
+  unfolding isKey keyRow
+  key-row = let h : keyPlace b < 16 = ltb-true (keyPlace b) 16 key in omega arith
 
   pub key-column : keyColumn b < 4
-  unfolding keyRow keyColumn
-  key-column =
-      let h = key-row in
-      omega (
-        arith,
-        column-below b (getD keypad (rowIn b keypad) []) (row-has b keypad h),
-        each-of-four (λ (k : ℕ). length (getD keypad k []) ≡ 4) refl refl refl refl (rowIn b keypad) h,
-      )
+  unfolding keyColumn
+  key-column = omega arith
 
   pub key-tones : tonesOf b ≡ Key (hertz (getD rows (keyRow b) 0)) (hertz (getD columns (keyColumn b) 0))
   unfolding tonesOf

@@ -9,7 +9,7 @@ use mathlib.Core.List.{List, [], _∷_, _++_, map, append-nil, append-assoc, map
 use lib.ListN.{length, getD, take, set, replicate, length-append, length-take, length-map}
 use lib.Seq.{take-suc, take-all, take-append-le, set-at, take-at}
 use Rattle.ascii.specs.Upper.{upper}
-use Rattle.keys.specs.Keys.{isKey, keyRow, keysOf, digitsOf, allKeys, padded}
+use Rattle.keys.specs.Keys.{isKey, keysOf, digitsOf, allKeys, padded}
 
 -- ---- of the keys among some bytes
 
@@ -66,11 +66,11 @@ all-more ds i h = rw (add-one, take-suc ds i 0) (sym (all-snoc (take i ds) (getD
 
 -- 01's cases: 12, and what the AT processor makes of abcdef
 pub dials-12 : digitsOf (49 ∷ 50 ∷ []) ≡ 49 ∷ 50 ∷ []
-unfolding digitsOf keysOf isKey keyRow upper
+unfolding digitsOf keysOf isKey upper
 dials-12 = refl
 
 pub dials-abcd : digitsOf (65 ∷ 66 ∷ 67 ∷ 68 ∷ 69 ∷ 70 ∷ []) ≡ 65 ∷ 66 ∷ 67 ∷ 68 ∷ []
-unfolding digitsOf keysOf isKey keyRow upper
+unfolding digitsOf keysOf isKey upper
 dials-abcd = refl
 
 -- ---- the digits of a line's first i bytes, in an array of 76 with their number

@@ -1,6 +1,6 @@
 -- 01, "Keys and frames": Q.23's keypad with the two tones of each key, and the digits of a dial line.
-use Prim.Native.Nat.{ℕ, suc, _-_}
-use mathlib.Core.Bool.{Bool, true, false, cond, _&&_, _||_}
+use Prim.Native.Nat.{ℕ, suc, _-_, _/_, _%_}
+use mathlib.Core.Bool.{Bool, true, false, cond, _&&_}
 use mathlib.Core.List.{List, [], _∷_, _++_, map}
 use lib.Dec.{eqb, ltb}
 use lib.Ieee.{Float, binary64, ofInt}
@@ -20,33 +20,26 @@ rows = 697 ∷ 770 ∷ 852 ∷ 941 ∷ []
 abbrev pub columns : List ℕ
 columns = 1209 ∷ 1336 ∷ 1477 ∷ 1633 ∷ []
 
--- keys 123A, 456B, 789C, *0#D
-abbrev pub keypad : List (List ℕ)
-keypad = ascii "123A" ∷ ascii "456B" ∷ ascii "789C" ∷ ascii "*0#D" ∷ []
+-- keys 123A, 456B, 789C, *0#D, four to a row
+abbrev pub keypad : List ℕ
+keypad = ascii "123A456B789C*0#D"
 
--- whether a byte is among the keys of a row
-abbrev pub isIn : ℕ → List ℕ → Bool
-isIn b [] = false
-isIn b (k ∷ ks) = eqb b k || isIn b ks
+-- the first place of a byte among some keys, counted from 0; their number if it is none of them
+abbrev pub placeIn : ℕ → List ℕ → ℕ
+placeIn b [] = 0
+placeIn b (k ∷ ks) = cond (eqb b k) 0 (suc (placeIn b ks))
 
--- the first row that has the byte, counted from 0; the number of rows if none has
-abbrev pub rowIn : ℕ → List (List ℕ) → ℕ
-rowIn b [] = 0
-rowIn b (ks ∷ rest) = cond (isIn b ks) 0 (suc (rowIn b rest))
-
--- the first place of the byte in a row, counted from 0
-abbrev pub columnIn : ℕ → List ℕ → ℕ
-columnIn b [] = 0
-columnIn b (k ∷ ks) = cond (eqb b k) 0 (suc (columnIn b ks))
+abbrev pub keyPlace : ℕ → ℕ
+keyPlace b = placeIn b keypad
 
 unfoldable pub keyRow : ℕ → ℕ
-keyRow b = rowIn b keypad
+keyRow b = keyPlace b / 4
 
 unfoldable pub keyColumn : ℕ → ℕ
-keyColumn b = columnIn b (getD keypad (rowIn b keypad) [])
+keyColumn b = keyPlace b % 4
 
 unfoldable pub isKey : ℕ → Bool
-isKey b = ltb (keyRow b) (length keypad)
+isKey b = ltb (keyPlace b) (length keypad)
 
 -- a frequency, in f64
 abbrev pub hertz : ℕ → Float

@@ -1,7 +1,9 @@
 // The keypad of Q.23, and the digits of a dial line.
 ghost use mathlib.Core.Path.{_≡_};
-ghost use Prim.Native.Nat.{_/_, _%_};
-ghost use Rattle.keys.specs.Keys.{keyRow, keyColumn, isKey, tonesOf, allKeys, dialledOf};
+ghost use Rattle.keys.specs.Keys.{keyPlace, isKey, tonesOf, allKeys, dialledOf};
+
+// Row by row, four keys to a row.
+const KEYPAD: [u8; 16] = *b"123A456B789C*0#D";
 
 const ROWS: [f64; 4] = [697.0, 770.0, 852.0, 941.0];
 
@@ -19,29 +21,18 @@ pub struct Digits {
     pub len: usize,
 }
 
-// Where a key stands on the keypad, counted row by row, four to a row; 16 for a byte that is no key.
+// Where a key stands on the keypad, counted row by row; 16 for a byte that is no key.
 fn key_place(b: u8) -> usize
-    ensures { λ r. ⌜ (r / 4 ≡ keyRow b) × (r % 4 ≡ keyColumn b) ⌝ }
+    ensures { λ r. ⌜ r ≡ keyPlace b ⌝ }
 {
-    match b {
-        b'1' => 0,
-        b'2' => 1,
-        b'3' => 2,
-        b'A' => 3,
-        b'4' => 4,
-        b'5' => 5,
-        b'6' => 6,
-        b'B' => 7,
-        b'7' => 8,
-        b'8' => 9,
-        b'9' => 10,
-        b'C' => 11,
-        b'*' => 12,
-        b'0' => 13,
-        b'#' => 14,
-        b'D' => 15,
-        _ => 16,
+    let mut i: usize = 0;
+    while i < 16 {
+        if KEYPAD[i] == b {
+            return i;
+        }
+        i += 1;
     }
+    16
 }
 
 pub fn is_key(b: u8) -> bool

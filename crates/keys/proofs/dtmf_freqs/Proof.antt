@@ -1,13 +1,13 @@
 -- `dtmf_freqs` meets its contract: row and column are the definition's, and the constants are their frequencies.
 -- Assumes nothing.
-use Prim.Native.Nat.{_/_, _%_, _<_, _≤_}
+use Prim.Native.Nat.{_/_, _%_, _<_}
 use mathlib.Core.Path.{ap₂}
 use lib.Ieee.{ofInt, ofBits}
 use native.Mathlib.Omega.{arith}
 use borrow.Author.Needs.{needs}
 use borrow.Author.Tests.{lt-ltb, le-ltb}
 use Rattle.keys.specs.declared.Tones.the-variants.{Key}
-use Rattle.keys.specs.Keys.{rows, columns, isKey, tonesOf}
+use Rattle.keys.specs.Keys.{rows, columns, keyRow, keyColumn, isKey, tonesOf}
 use Rattle.keys.proofs.Keypad.{tone-at}
 use Rattle.keys.proofs.dtmf_freqs.Statement.{statement}
 use Rattle.keys.proofs.dtmf_freqs.Tie as tie
@@ -28,19 +28,16 @@ array-read-high : tie.Need-array-read-high
 array-read-high c = search needs
 
 returns : tie.Need-returns
-unfolding tonesOf isKey ofInt ofBits
+unfolding tonesOf isKey keyRow keyColumn ofInt ofBits
 returns c =
     let place = c .before .key-place in
     let row : place .result / 4 < 4 = omega arith in
     let column : place .result % 4 < 4 = omega arith in
-    rw (← place .ensures .0, ← place .ensures .1, lt-ltb _ _ row) (ap₂ Key (tone-at rows _ row) (tone-at columns _ column))
+    rw (← place .ensures, lt-ltb _ _ (c .if1 .taken)) (ap₂ Key (tone-at rows _ row) (tone-at columns _ column))
 
 returns-2 : tie.Need-returns-2
 unfolding tonesOf isKey
-returns-2 c =
-    let place = c .before .key-place in
-    let row : 4 ≤ place .result / 4 = omega arith in
-    rw (← place .ensures .0, le-ltb _ _ row)
+returns-2 c = rw (← c .before .key-place .ensures, le-ltb _ _ (c .if1 .left))
 
 pub dtmf-freqs-spec : {M : Type 1} → statement M
 dtmf-freqs-spec =

@@ -1,10 +1,6 @@
--- `is_key` meets its contract: a place below 16 is in one of the four rows. Assumes nothing.
-use mathlib.Core.Path.{ap, _∙_}
-use Prim.Native.Nat.{ℕ}
-use lib.Dec.{ltb}
-use borrow.Author.Needs.{needs}
+-- `is_key` meets its contract: a key has a place on the keypad. Assumes nothing.
 use Rattle.keys.specs.Keys.{isKey}
-use Rattle.keys.proofs.Keypad.{quarter}
+use borrow.Author.Needs.{needs}
 use Rattle.keys.proofs.is_key.Statement.{statement}
 use Rattle.keys.proofs.is_key.Tie as tie
 
@@ -13,7 +9,7 @@ key-place-requires c κs = search needs
 
 returns : tie.Need-returns
 unfolding isKey
-returns c = quarter (c .key-place .result) ∙ ap (λ (r : ℕ). ltb r 4) (c .key-place .ensures .0)
+returns c = rw (c .key-place .ensures)
 
 pub is-key-spec : {M : Type 1} → statement M
 is-key-spec = tie.close (tie.spec key-place-requires returns)
