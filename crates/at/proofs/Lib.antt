@@ -1,6 +1,7 @@
 -- Laws on the processor, and its proving cases.
 pub mod Cases
 pub mod Few
+pub mod Bytes
 pub mod Sound
 pub mod Outbox
 pub mod Lines

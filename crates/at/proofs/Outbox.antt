@@ -9,14 +9,14 @@ use mathlib.Core.List.{List, _++_, append-assoc}
 use mathlib.Core.Bool.{Bool, true, false}
 use lib.ListN.{length, drop, set, replicate, length-append, length-replicate}
 use lib.Seq.{drop-cons, set-at}
-use lib.Dec.{ltb, eqb}
-use borrow.Author.Tests.{lt-ltb}
 use Rattle.ascii.specs.Front.{put}
 use Rattle.ascii.proofs.Front.{put-fits, put-none, put-short}
 use Rattle.at.specs.declared.AtProcessor.{AtProcessor}
-use Rattle.at.specs.Processor.{commandMode, lineOf, pluses, sound}
-use Rattle.at.specs.Escape.{withheld, plusesThen, released, releasedIf, dataByte, dataByteIf}
-use Rattle.at.specs.At.{ended, commandByte, commandByteIf, typedByte, typedByteIf, sent, sentIf}
+use Rattle.at.specs.declared.Fed.{Fed}
+use Rattle.at.specs.Processor.{pluses, sound}
+use Rattle.at.specs.Escape.{withheld, plusesThen, released}
+use Rattle.at.specs.At.{typedByte, sent}
+use Rattle.at.proofs.Bytes.{Typed, dropped, ends, grows, waits, sends, declined, typed-byte}
 use Rattle.at.proofs.Sound.{parts}
 
 -- the byte stored after the pluses
@@ -42,40 +42,30 @@ module _ (p : AtProcessor) (byte : ℕ) (was : List ℕ) where
   unfolding released
   outbox-short w l = rw w (put-short (plusesThen (pluses p) byte) was (rw length-closed (omega arith)))
 
-few-released : (w : Bool) (p : AtProcessor) (byte : ℕ) → pluses p ≤ 3 → length (releasedIf w p byte) ≤ 4
-few-released true p byte l = zero-le
-few-released false p byte l = rw length-closed (omega arith)
+module _ {p : AtProcessor} {byte : ℕ} {carrier : Bool} {room : ℕ} (held : pluses p ≤ 3) where
+  few : {f : Fed} {bytes : List ℕ} → Typed p byte carrier room f bytes → length bytes ≤ 4
+  few dropped = zero-le
+  few ends = zero-le
+  few grows = zero-le
+  few (waits w) = zero-le
+  few (sends r) = rw length-closed (omega arith)
+  few (declined r) = rw length-closed (omega arith)
 
-few-sent : (mode : Bool) (p : AtProcessor) (byte : ℕ) → pluses p ≤ 3 → length (sentIf mode p byte) ≤ 4
-unfolding released
-few-sent true p byte l = zero-le
-few-sent false p byte l = few-released (withheld p byte) p byte l
+  counted : {f : Fed} {bytes : List ℕ} → 4 ≤ room → Typed p byte carrier room f bytes → f .sent ≡ length bytes
+  counted l dropped = refl
+  counted l ends = refl
+  counted l grows = refl
+  counted l (waits w) = refl
+  counted l (sends r) = rw length-closed
+  counted l (declined r) = absurd (omega arith)
 
 -- a typed byte sends at most four
 pub at-most-four : (p : AtProcessor) (byte : ℕ) → sound p ≡ true → length (sent p byte) ≤ 4
-unfolding sent
-at-most-four p byte e = few-sent (commandMode p) p byte (parts p e .held)
-
-count-command : (lf cr empty : Bool) (p : AtProcessor) (byte : ℕ) (carrier : Bool) → eqb (lineOf p .len) 0 ≡ empty → commandByteIf lf cr p byte carrier .sent ≡ 0
-unfolding ended
-count-command true cr empty p byte carrier e = refl
-count-command false true true p byte carrier e = rw e
-count-command false true false p byte carrier e = rw e
-count-command false false empty p byte carrier e = refl
-
-count-data : (w : Bool) (p : AtProcessor) (byte room : ℕ) → pluses p < room → dataByteIf w (ltb (pluses p) room) p .sent ≡ length (releasedIf w p byte)
-count-data true p byte room l = refl
-count-data false p byte room l = rw (lt-ltb _ _ l, length-closed)
-
-count-typed : (mode : Bool) (p : AtProcessor) (byte : ℕ) (carrier : Bool) (room : ℕ) → pluses p < room → typedByteIf mode p byte carrier room .sent ≡ length (sentIf mode p byte)
-unfolding commandByte dataByte released
-count-typed true p byte carrier room l = count-command (eqb byte (code "\n")) (eqb byte (code "\r")) _ p byte carrier refl
-count-typed false p byte carrier room l = count-data (withheld p byte) p byte room l
+at-most-four p byte e = few (parts p e .held) (typed-byte p byte false 0)
 
 -- with an outbox that 01 does not decline, the answer counts them
 pub sent-count : (p : AtProcessor) (byte : ℕ) (carrier : Bool) (room : ℕ) → sound p ≡ true → 4 ≤ room → typedByte p byte carrier room .sent ≡ length (sent p byte)
-unfolding typedByte sent
-sent-count p byte carrier room e l = count-typed (commandMode p) p byte carrier room (omega (arith, parts p e .held))
+sent-count p byte carrier room e l = counted (parts p e .held) l (typed-byte p byte carrier room)
 
 -- and they stand at its front, the later bytes as they were
 pub sent-first : (p : AtProcessor) (byte : ℕ) (was : List ℕ) → sound p ≡ true → 4 ≤ length was → put (sent p byte) was ≡ sent p byte ++ drop (length (sent p byte)) was

@@ -1,9 +1,9 @@
 -- A sound processor stays sound: by a typed byte, a lapse of time and forced data mode, clause by clause of the definitions.
 -- Assumes nothing.
 use Prim.Native.Nat.{ℕ, _≤_, _<_}
-use Prim.Native.Char.{code}
 use native.Mathlib.Omega.{arith}
 use mathlib.Core.Path.{_≡_, refl}
+use mathlib.Core.List.{List}
 use mathlib.Core.Bool.{Bool, true, false, _&&_, and-eq-true-iff}
 use lib.Dec.{leb, ltb, eqb}
 use borrow.Author.Tests.{leb-true, leb-false, ltb-true, le-leb, lt-ltb}
@@ -11,12 +11,14 @@ use Rattle.command.specs.declared.Command.{Command}
 use Rattle.command.specs.declared.Command.the-variants.{At, Atz, Ati, Ata, Ath, Ato, Atdt, Unknown}
 use Rattle.command.specs.Line.{pushed, pushedIf}
 use Rattle.at.specs.declared.AtProcessor.{AtProcessor}
+use Rattle.at.specs.declared.Fed.{Fed}
 use Rattle.at.specs.Processor.{commandMode, lineOf, pluses, seen, downTime, holdTime, sound, fresh, withLine, withEscape, added}
 use Rattle.at.specs.Command.{executed}
-use Rattle.at.specs.Escape.{guardTime, withheld, dataByte, dataByteIf, escaped, escapedIf, waited, waitedIf}
+use Rattle.at.specs.Escape.{guardTime, escaped, escapedIf, waited, waitedIf}
 use Rattle.at.specs.Carrier.{downFor, downIf, polled, polledIf}
-use Rattle.at.specs.At.{ended, endedIf, commandByte, commandByteIf, typedByte, typedByteIf, lapse, forcedData}
+use Rattle.at.specs.At.{typedByte, lapse, forcedData}
 use Rattle.at.proofs.Few.{withheld-few}
+use Rattle.at.proofs.Bytes.{Typed, dropped, ends, grows, waits, sends, declined, typed-byte}
 
 pub record Sound (p : AtProcessor) : Type 0 where
   pub line : lineOf p .len ≤ 80
@@ -48,33 +50,21 @@ kept-executed Ato false p s = omega arith
 kept-executed Atdt carrier p s = omega arith
 kept-executed Unknown carrier p s = omega arith
 
-kept-ended : (empty : Bool) (p : AtProcessor) (carrier : Bool) → Sound p → Sound (endedIf empty p carrier .processor)
-kept-ended true p carrier s = omega arith
-kept-ended false p carrier s = kept-executed _ carrier _ (omega arith)
-
 kept-pushed : (t : Bool) (p : AtProcessor) (byte : ℕ) → ltb (lineOf p .len) 80 ≡ t → Sound p → Sound (withLine (pushedIf t (lineOf p) byte) p)
 kept-pushed true p byte e s = omega (arith, ltb-true (lineOf p .len) 80 e)
 kept-pushed false p byte e s = omega arith
 
-kept-command : (lf cr : Bool) (p : AtProcessor) (byte : ℕ) (carrier : Bool) → Sound p → Sound (commandByteIf lf cr p byte carrier .processor)
-unfolding ended pushed
-kept-command true cr p byte carrier s = omega arith
-kept-command false true p byte carrier s = kept-ended (eqb (lineOf p .len) 0) p carrier s
-kept-command false false p byte carrier s = kept-pushed (ltb (lineOf p .len) 80) p byte refl s
-
-kept-data : (w room : Bool) (p : AtProcessor) (byte : ℕ) → withheld p byte ≡ w → Sound p → Sound (dataByteIf w room p .processor)
-kept-data true room p byte e s = omega (arith, withheld-few p byte e)
-kept-data false true p byte e s = omega arith
-kept-data false false p byte e s = omega arith
-
-kept-typed : (mode : Bool) (p : AtProcessor) (byte : ℕ) (carrier : Bool) (room : ℕ) → Sound p → Sound (typedByteIf mode p byte carrier room .processor)
-unfolding commandByte dataByte
-kept-typed true p byte carrier room s = kept-command (eqb byte (code "\n")) (eqb byte (code "\r")) p byte carrier s
-kept-typed false p byte carrier room s = kept-data (withheld p byte) (ltb (pluses p) room) p byte refl s
+kept-typed : {p : AtProcessor} {byte : ℕ} {carrier : Bool} {room : ℕ} {f : Fed} {bytes : List ℕ} → Sound p → Typed p byte carrier room f bytes → Sound (f .processor)
+unfolding pushed
+kept-typed s dropped = s
+kept-typed {carrier = carrier} s ends = kept-executed _ carrier _ (omega arith)
+kept-typed {p} {byte} s grows = kept-pushed (ltb (lineOf p .len) 80) p byte refl s
+kept-typed {p} {byte} s (waits w) = omega (arith, withheld-few p byte w)
+kept-typed s (sends r) = omega arith
+kept-typed s (declined r) = s
 
 pub sound-typed : (p : AtProcessor) (byte : ℕ) (carrier : Bool) (room : ℕ) → sound p ≡ true → sound (typedByte p byte carrier room .processor) ≡ true
-unfolding typedByte
-sound-typed p byte carrier room e = whole _ (kept-typed (commandMode p) p byte carrier room (parts p e))
+sound-typed p byte carrier room e = whole _ (kept-typed (parts p e) (typed-byte p byte carrier room))
 
 -- and so do a lapse and forced data mode
 

@@ -20,7 +20,7 @@ use Rattle.at.specs.Carrier.{polled}
 abbrev pub endedIf : Bool → AtProcessor → Bool → Fed
 endedIf true p carrier = quiet p
 endedIf false p carrier =
-    answered (uppercased (lineOf p)) (executed (commandOf (typed (uppercased (lineOf p)))) carrier (withLine emptyLine p))
+    answered (uppercased (lineOf p)) (executed (commandOf (uppercased (lineOf p))) carrier (withLine emptyLine p))
 
 unfoldable pub ended : AtProcessor → Bool → Fed
 ended p carrier = endedIf (eqb (lineOf p .len) 0) p carrier

@@ -1,11 +1,11 @@
 -- A line compared with a text, one byte a turn: what is left of both decides, as long as the bytes before agree.
 -- Assumes nothing.
-use Prim.Native.Nat.{ℕ, _+_, _<_, _≤_, zero-le, suc-le-suc}
+use Prim.Native.Nat.{ℕ, _+_, _<_, _≤_}
 use native.Mathlib.Nat.{le-of-suc-le-suc, not-suc-le-zero}
 use native.Mathlib.Numerals.{add-one}
 use mathlib.Core.Path.{_≡_, refl}
 use mathlib.Core.List.{List, [], _∷_}
-use mathlib.Core.Bool.{Bool, true, false, and-false, and-eq-true-iff, false≢true}
+use mathlib.Core.Bool.{Bool, true, false, and-false}
 use native.Mathlib.Omega.{arith}
 use lib.ListN.{length, take, drop, getD, length-take, drop-of-length-le}
 use lib.Seq.{drop-cons, getD-take, length-take-le, take-all}
@@ -19,12 +19,6 @@ unfolding begins
 too-short [] line l = absurd (not-suc-le-zero l)
 too-short (t ∷ text) [] l = refl
 too-short (t ∷ text) (b ∷ line) l = rw (too-short text line (le-of-suc-le-suc l)) (and-false (eqb b t))
-
-pub begins-long : (text line : List ℕ) → begins text line ≡ true → length text ≤ length line
-unfolding begins
-begins-long [] line e = zero-le
-begins-long (t ∷ text) [] e = absurd (false≢true e)
-begins-long (t ∷ text) (b ∷ line) e = suc-le-suc (begins-long text line (and-eq-true-iff (eqb b t) _ .0 e .1))
 
 -- a line of `len` bytes, at least as long as the text
 module _ (text bytes : List ℕ) (len : ℕ) (reaches : length text ≤ len) (holds : length text ≤ length bytes) (i : ℕ) (inText : i < length text) where

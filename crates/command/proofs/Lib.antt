@@ -1,4 +1,3 @@
 -- Laws on lines.
 pub mod Mapped
 pub mod Begins
-pub mod Dial

@@ -1,12 +1,14 @@
 -- 01, "The AT processor": which command a line is, once uppercased.
 use Prim.Native.Nat.{ℕ}
 use mathlib.Core.List.{List, [], _∷_}
-use mathlib.Core.Bool.{Bool, true, false, _&&_, _||_}
+use mathlib.Core.Bool.{Bool, true, false, _&&_}
 use lib.ListN.{length}
 use lib.Dec.{eqb}
 use Rattle.ascii.specs.Ascii.{ascii}
+use Rattle.command.specs.declared.Line.{Line}
 use Rattle.command.specs.declared.Command.{Command}
 use Rattle.command.specs.declared.Command.the-variants.{At, Atz, Ati, Ata, Ath, Ato, Atdt, Unknown}
+use Rattle.command.specs.Line.{typed}
 
 -- a line that begins with a text, and one that is the text
 unfoldable pub begins : List ℕ → List ℕ → Bool
@@ -22,12 +24,14 @@ abbrev pub read : Bool → Command → Command → Command
 read true this next = this
 read false this next = next
 
-unfoldable pub commandOf : List ℕ → Command
-commandOf line =
-    read (is (ascii "AT") line) At
-    (read (is (ascii "ATZ") line) Atz
-    (read (is (ascii "ATI") line) Ati
-    (read (is (ascii "ATA") line) Ata
-    (read (is (ascii "ATH") line || is (ascii "ATH0") line) Ath
-    (read (is (ascii "ATO") line || is (ascii "ATO0") line) Ato
-    (read (begins (ascii "ATDT") line) Atdt Unknown))))))
+unfoldable pub commandOf : Line → Command
+commandOf l =
+    read (is (ascii "AT") (typed l)) At
+    (read (is (ascii "ATZ") (typed l)) Atz
+    (read (is (ascii "ATI") (typed l)) Ati
+    (read (is (ascii "ATA") (typed l)) Ata
+    (read (is (ascii "ATH") (typed l)) Ath
+    (read (is (ascii "ATH0") (typed l)) Ath
+    (read (is (ascii "ATO") (typed l)) Ato
+    (read (is (ascii "ATO0") (typed l)) Ato
+    (read (begins (ascii "ATDT") (typed l)) Atdt Unknown))))))))

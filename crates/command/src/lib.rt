@@ -4,6 +4,7 @@ ghost use mathlib.Core.Path.{_≡_};
 ghost use Prim.Native.Nat.{_≤_, _<_};
 ghost use lib.ListN.{length};
 ghost use Rattle.command.specs.Line.{emptyLine, typed, pushed, uppercased};
+ghost use Rattle.command.specs.Command as commands;
 ghost use Rattle.command.specs.Command.{begins, is, commandOf};
 
 // A command line: the first `len` of its bytes.
@@ -93,31 +94,28 @@ impl Line {
         self.starts_with(text)
     }
 
-    // Which command an uppercased line is.
+    // Which command an uppercased line is: at.rs's arms, from the last up.
     pub fn command(self) -> Command
-        ensures { λ r. ⌜ r ≡ commandOf (typed self) ⌝ }
+        ensures { λ r. ⌜ r ≡ commandOf self ⌝ }
     {
-        if self.equals(b"AT") {
-            return Command::At;
-        }
-        if self.equals(b"ATZ") {
-            return Command::Atz;
-        }
-        if self.equals(b"ATI") {
-            return Command::Ati;
-        }
-        if self.equals(b"ATA") {
-            return Command::Ata;
-        }
-        if self.equals(b"ATH") | self.equals(b"ATH0") {
-            return Command::Ath;
-        }
-        if self.equals(b"ATO") | self.equals(b"ATO0") {
-            return Command::Ato;
-        }
-        if self.starts_with(b"ATDT") {
-            return Command::Atdt;
-        }
-        Command::Unknown
+        let rest = read(self.starts_with(b"ATDT"), Command::Atdt, Command::Unknown);
+        let rest = read(self.equals(b"ATO0"), Command::Ato, rest);
+        let rest = read(self.equals(b"ATO"), Command::Ato, rest);
+        let rest = read(self.equals(b"ATH0"), Command::Ath, rest);
+        let rest = read(self.equals(b"ATH"), Command::Ath, rest);
+        let rest = read(self.equals(b"ATA"), Command::Ata, rest);
+        let rest = read(self.equals(b"ATI"), Command::Ati, rest);
+        let rest = read(self.equals(b"ATZ"), Command::Atz, rest);
+        read(self.equals(b"AT"), Command::At, rest)
     }
+}
+
+// This command if the test holds, else what the arms below gave.
+fn read(test: bool, this: Command, rest: Command) -> Command
+    ensures { λ r. ⌜ r ≡ commands.read test this rest ⌝ }
+{
+    if test {
+        return this;
+    }
+    rest
 }

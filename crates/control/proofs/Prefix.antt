@@ -1,5 +1,4 @@
--- A dial line's bytes after ATDT, as the code lends them: for a line too short, of a length that it holds, and longer. A line of 80 bytes has at
--- most 76 of them. Assumes nothing.
+-- A dial line's bytes after ATDT, as the code lends them: for a line too short, of a length that it holds, and longer. Assumes nothing.
 use Prim.Native.Nat.{ℕ, zero, suc, _-_, _≤_, _<_}
 use native.Mathlib.Nat.{sub-zero, zero-sub, suc-sub-suc}
 use native.Mathlib.Omega.{arith}
@@ -7,8 +6,6 @@ use mathlib.Core.Path.{_≡_, refl}
 use mathlib.Core.List.{List, [], _∷_}
 use lib.ListN.{length, take, drop, length-take, length-drop, drop-of-length-le}
 use lib.Seq.{take-all}
-use Rattle.at.specs.declared.Fed.{Fed}
-use Rattle.at.specs.At.{afterAtdt}
 
 pub too-short : (xs : List ℕ) (n : ℕ) → n < 4 → drop 4 (take n xs) ≡ []
 too-short xs n h = drop-of-length-le (take n xs) {i = 4} (simp length-take (omega arith))
@@ -29,6 +26,3 @@ held xs n = from-place 4 n xs
 
 pub too-long : (xs : List ℕ) (n : ℕ) → length xs ≡ 80 → 80 < n → take 76 (drop 4 xs) ≡ drop 4 (take n xs)
 too-long xs n e h = rw (take-all n xs (omega arith), take-all 76 (drop 4 xs) (simp length-drop (omega arith)))
-
-pub few-after : (fed : Fed) → fed .line .len ≤ 80 → length (afterAtdt fed) ≤ 76
-few-after fed h = simp (length-drop, length-take) (omega arith)

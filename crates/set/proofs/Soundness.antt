@@ -22,11 +22,10 @@ use Rattle.at.specs.declared.Control.{Control}
 use Rattle.at.specs.declared.Control.the-variants.{Nothing, Dial, Answer, Hangup}
 use Rattle.at.specs.Processor as processor
 use Rattle.at.specs.At.{typedByte, afterAtdt, lineFull}
-use Rattle.at.proofs.Lines.{line-ended}
+use Rattle.at.proofs.Lines.{few-after}
 use Rattle.at.proofs.Sound.{sound-typed, sound-lapse, sound-forced}
 use Rattle.session.specs.Session.{idle, answering, dialling}
 use Rattle.control.specs.Control.{heard, controlled}
-use Rattle.control.proofs.Prefix.{few-after}
 use Rattle.set.specs.declared.Set.{Set}
 use Rattle.set.specs.Sound.{sound}
 use Rattle.set.specs.Set.{moved, typedIf, typed, lapsed, forced}
@@ -40,7 +39,7 @@ after-sound digits r (suc k) s h e = after-sound digits r k (stateNext s digits 
 
 -- a line has at most 76 bytes after ATDT, so no digit is lost
 pub few-typed : (p : AtProcessor) → processor.sound p ≡ true → (byte : ℕ) (carrier : Bool) (room : ℕ) → length (afterAtdt (typedByte p byte carrier room)) ≤ 76
-few-typed p good byte carrier room = few-after (typedByte p byte carrier room) (line-ended p byte carrier room good .fits)
+few-typed p good byte carrier room = few-after p byte carrier room good
 
 pub dialled-ok : (line : List ℕ) → length line ≤ 76 → digitsOk (digitsOf line) ≡ true
 unfolding digitsOk
