@@ -3,11 +3,13 @@
 use Prim.Native.Nat.{ℕ, zero, suc, _+_, _*_, _/_, _%_, _<_, _≤_}
 use native.Mathlib.Nat.{not-suc-le-zero, le-of-suc-le-suc}
 use native.Mathlib.Omega.{arith}
-use mathlib.Core.Path.{_≡_, refl, _∙_}
-use mathlib.Core.Bool.{Bool, true}
+use mathlib.Core.Path.{_≡_, refl, sym, _∙_}
+use mathlib.Core.Bool.{Bool, true, false}
 use mathlib.Core.List.{List, [], _∷_}
 use lib.ListN.{length, getD, length-append, List·getD-append, List·getD-eq-default}
+use lib.Dec.{ltb}
 use lib.Seq.{getD-append-add}
+use borrow.Author.Tests.{lt-ltb, le-ltb, ltb-true, ltb-false}
 use Rattle.frame.specs.Frame.{frameOf, framed, bitAt, ciPayload, cmJmPayload, cjPayload, trainingPayload}
 
 -- below the length nothing hangs on what stands for a missing element
@@ -46,6 +48,14 @@ module _ (p : List ℕ) (k : ℕ) where
   pub bit-past : length p ≤ k / 10 → bitAt p k ≡ true
   unfolding bitAt
   bit-past h = List·getD-eq-default (framed p) true (omega (arith, framed-length p))
+
+  -- there is such a bit if there is such a byte
+  pub bit-there : ltb (k / 10) (length p) ≡ ltb k (length (framed p))
+  bit-there = go (ltb (k / 10) (length p)) refl
+    where
+      go : (t : Bool) → ltb (k / 10) (length p) ≡ t → t ≡ ltb k (length (framed p))
+      go true e = sym (lt-ltb k (length (framed p)) (omega (arith, framed-length p, ltb-true (k / 10) (length p) e)))
+      go false e = sym (le-ltb k (length (framed p)) (omega (arith, framed-length p, ltb-false (k / 10) (length p) e)))
 
 -- how many bits each payload has: 60, 80 and 300 in the stages are all of them
 pub ci-length : length (framed ciPayload) ≡ 60

@@ -1,6 +1,8 @@
 // Asynchronous framing, and the payloads that the stages send. A mark, 01's bit 1, is `true`.
 ghost use mathlib.Core.Path.{_≡_};
-ghost use Rattle.frame.specs.Frame.{frameOf, bitAt};
+ghost use lib.Dec.{ltb};
+ghost use lib.ListN.{length};
+ghost use Rattle.frame.specs.Frame.{frameOf, framed, bitAt};
 
 // A caller's proof sees through a constant: `payload_bit(&CI_PAYLOAD, i)` is bit i of `ciPayload`, and so for the others.
 pub const CI_PAYLOAD: [u8; 6] = *b"CICICI";
@@ -27,6 +29,13 @@ pub fn frame_byte(b: u8) -> [bool; 10]
         (b >> 7) % 2 == 1,
         true,
     ]
+}
+
+// Whether the payload's frames have a bit `index`, counted from 0.
+pub fn has_bit(payload: &[u8], index: usize) -> bool
+    ensures { λ r. ⌜ r ≡ ltb index (length (framed (now (payload .entry)))) ⌝ }
+{
+    index / 10 < payload.len()
 }
 
 // Bit `index` of the payload's frames, counted from 0. Past the last one the line is at mark.

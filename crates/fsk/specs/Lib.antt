@@ -1,1 +1,2 @@
+pub mod Modulator
 pub mod Channel

@@ -309,7 +309,9 @@ fn write_bits(fsk: FskChannel, payload: &[u8], total: u32, out: &mut [f32]) -> S
     let mut i: usize = 0;
     while out.len() - i > 1 {
         let g = f.moved(payload);
-        let s = fsk::sample_twice(f, g);
+        let m = f.modulator;
+        let n = g.modulator;
+        let s = fsk::sample_twice(m, n);
         out[i] = math::narrow(s.a);
         i += 1;
         if g.done >= total {

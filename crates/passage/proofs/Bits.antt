@@ -10,11 +10,12 @@ use lib.Ieee.{Float}
 use borrow.Author.Tests.{le-leb, lt-leb}
 use Rattle.frame.specs.Frame.{ciPayload, cmJmPayload, cjPayload, trainingPayload}
 use Rattle.schedule.specs.Time.{samplesIn}
-use Rattle.schedule.specs.Symbols.{symbolStep, symbolEnds, nextPhase, phaseAfter, doneBy, doneAfter}
+use Rattle.schedule.specs.Symbols.{symbolStep, symbolEnds, phaseAfter, doneBy, doneAfter}
 use Rattle.schedule.specs.Length.{cjSilence, bitsLength}
 use Rattle.schedule.proofs.Lengths.{bitsAfter, bits-end, bits-before, bits-range, silence-range}
 use Rattle.fsk.specs.declared.FskChannel.{FskChannel}
-use Rattle.fsk.specs.Channel.{freshChannel, doneNext, nextChannel}
+use Rattle.fsk.specs.Channel.{freshChannel, nextChannel}
+use Rattle.fsk.proofs.Channel.{next-phase, next-step, next-done}
 use Rattle.stage.specs.declared.Stage.{Stage}
 use Rattle.stage.specs.declared.Stage.the-variants as stage
 use Rattle.stage.specs.declared.StageState.{StageState}
@@ -25,7 +26,7 @@ use Rattle.stage.specs.Next.{ciOf, cmJmOf, cjAt, cjOf, trainingOf, generateOf, 
 use Rattle.overture.specs.Iteration.{after}
 use Rattle.overture.proofs.Iteration.{after-suc}
 use Rattle.passage.proofs.Lasting.{Lasts, Passes, Course, then-lasts, passes}
-use Rattle.passage.proofs.Counted.{saturating-inc, counted}
+use Rattle.passage.proofs.Counted.{counted}
 
 -- ---- the channel
 -- after n samples of a payload
@@ -43,30 +44,23 @@ done-most s (suc n) = go (symbolEnds s (phaseAfter s n)) (doneAfter s n) (done-m
     go false k l = le-trans l (le-suc n)
 
 module _ (payload : List ℕ) (r : ℕ) where
-  pub step-is : (n : ℕ) → channelAfter payload r n .step ≡ symbolStep r
-  unfolding channelAfter freshChannel nextChannel
+  step-is : (n : ℕ) → channelAfter payload r n .modulator .step ≡ symbolStep r
+  unfolding channelAfter freshChannel
   step-is zero = refl
-  step-is (suc n) = step-is n
+  step-is (suc n) = next-step (channelAfter payload r n) payload ∙ step-is n
 
-  pub phase-is : (n : ℕ) → channelAfter payload r n .phase ≡ phaseAfter (symbolStep r) n
-  unfolding channelAfter freshChannel nextChannel phaseAfter
+  phase-is : (n : ℕ) → channelAfter payload r n .modulator .phase ≡ phaseAfter (symbolStep r) n
+  unfolding channelAfter freshChannel phaseAfter
   phase-is zero = refl
-  phase-is (suc n) = ap (λ (s : Float). nextPhase s (channelAfter payload r n .phase)) (step-is n) ∙ ap (nextPhase (symbolStep r)) (phase-is n)
+  phase-is (suc n) = next-phase (channelAfter payload r n) payload ∙ rw (step-is n, phase-is n)
 
   pub done-is : (n : ℕ) → n ≤ 0xffff_ffff → channelAfter payload r n .done ≡ doneAfter (symbolStep r) n
-  unfolding channelAfter freshChannel nextChannel doneAfter
+  unfolding channelAfter freshChannel doneAfter
   done-is zero l = refl
   done-is (suc n) l =
-      let f = channelAfter payload r n in
-      let s = symbolStep r in
-      ap (λ (x : Float). doneNext (symbolEnds x (f .phase)) (f .done)) (step-is n)
-      ∙ ap (λ (x : Float). doneNext (symbolEnds s x) (f .done)) (phase-is n)
-      ∙ ap (doneNext (symbolEnds s (phaseAfter s n))) (done-is n (le-of-lt l))
-      ∙ go (symbolEnds s (phaseAfter s n)) (doneAfter s n) (lt-of-le-of-lt (done-most s n) l)
-    where
-      go : (b : Bool) (k : ℕ) → k < 0xffff_ffff → doneNext b k ≡ doneBy b k
-      go true k h = saturating-inc 0xffff_ffff (le-refl _) k h
-      go false k h = refl
+      let e = done-is n (le-of-lt l) in
+      let few = lt-of-le-of-lt (done-most (symbolStep r) n) l in
+      next-done (channelAfter payload r n) payload (subst (λ (k : ℕ). k < 0xffff_ffff) (sym e) few) ∙ rw (step-is n, phase-is n, e)
 
 -- a state that is the payload's channel after j samples
 abbrev pub Keys : (FskChannel → StageState) → List ℕ → ℕ → ℕ → StageState → Type 0

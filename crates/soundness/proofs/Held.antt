@@ -2,11 +2,11 @@
 -- given any float. Every operation of binary64 gives such a number, so a state that holds them is followed by one that does, and a stage begins
 -- with one. Assumes nothing.
 use mathlib.Core.Bool.{Bool, true, false}
-use mathlib.Core.List.{List}
+use mathlib.Core.List.{List, [], _∷_}
 use Prim.Native.Nat.{ℕ}
 use lib.IntN.{pos}
 use lib.Dec.{T, leb}
-use lib.ListN.{length}
+use lib.ListN.{length, drop}
 use lib.Ieee.{Float, binary64, fits}
 use lib.Ieee.Bits.{ofBits-fits}
 use lib.Ieee.Fits.{div-fits, ofInt-fits}
@@ -14,13 +14,16 @@ use Rattle.math.specs.Float.{tau, ofNat, times}
 use Rattle.nco.specs.declared.Nco.{Nco}
 use Rattle.nco.specs.Nco.{freshNco, retuned, steppedNco}
 use Rattle.nco.proofs.Phase.{advanced-fits}
+use Rattle.frame.specs.Frame.{framed}
 use Rattle.schedule.specs.Time.{timeAt, saturatingInc}
 use Rattle.schedule.specs.Dialling.{digitAt, inTone}
 use Rattle.schedule.specs.Ringback.{ringTime, ringTone}
-use Rattle.schedule.specs.Symbols.{symbolStep, symbolEnds}
+use Rattle.schedule.specs.Symbols.{symbolStep}
 use Rattle.schedule.proofs.SymbolPhase.{next-phase-fits}
+use Rattle.fsk.specs.declared.Modulator.{Modulator}
 use Rattle.fsk.specs.declared.FskChannel.{FskChannel}
-use Rattle.fsk.specs.Channel.{freshChannel, nextChannel, ncoNext}
+use Rattle.fsk.specs.Modulator.{bitEnds, nextModulator}
+use Rattle.fsk.specs.Channel.{freshChannel, nextKeyed, channelBy, nextChannel}
 use Rattle.tones.specs.declared.Dial.{Dial}
 use Rattle.stage.specs.declared.Stage.{Stage}
 use Rattle.stage.specs.declared.Stage.the-variants as stage
@@ -40,21 +43,21 @@ pub record HeldNco (o : Nco) : Type 0 where
   pub step : Double (o .step)
   pub rate : Double (o .rate)
 
-pub record HeldFsk (f : FskChannel) : Type 0 where
-  pub nco : HeldNco (f .nco)
-  pub phase : Double (f .phase)
-  pub step : Double (f .step)
+pub record HeldModulator (m : Modulator) : Type 0 where
+  pub nco : HeldNco (m .nco)
+  pub phase : Double (m .phase)
+  pub step : Double (m .step)
 
 abbrev pub Held : StageState → Type 0
 Held (OffHook rng n) = Unit {0}
 Held (DialTone a b n) = HeldNco a × HeldNco b
 Held (Dialling i on a b n) = HeldNco a × HeldNco b
 Held (Ringback a b n ring) = HeldNco a × HeldNco b
-Held (Ci f) = HeldFsk f
+Held (Ci f) = HeldModulator (f .modulator)
 Held (Ansam carrier env n) = HeldNco carrier × HeldNco env
-Held (CmJm f) = HeldFsk f
-Held (Cj f z) = HeldFsk f
-Held (Training f) = HeldFsk f
+Held (CmJm f) = HeldModulator (f .modulator)
+Held (Cj f z) = HeldModulator (f .modulator)
+Held (Training f) = HeldModulator (f .modulator)
 Held Connected = Unit {0}
 
 -- ---- oscillators
@@ -73,22 +76,24 @@ gated-held true a b h = (stepped-held a (h .0), stepped-held b (h .1))
 gated-held false a b h = h
 
 -- ---- channels
-fresh-channel-held : (payload : List ℕ) (r : ℕ) → HeldFsk (freshChannel payload r)
+fresh-channel-held : (payload : List ℕ) (r : ℕ) → HeldModulator (freshChannel payload r .modulator)
 unfolding freshChannel symbolStep
 fresh-channel-held payload r = record { nco = fresh-held _ r; phase = ofBits-fits binary64 0; step = div-fits binary64 (ofNat 300) (ofNat r) }
 
-nco-next-held : (b : Bool) (o : Nco) (payload : List ℕ) (k : ℕ) → HeldNco o → HeldNco (ncoNext b o payload k)
-nco-next-held true o payload k h = retuned-held (steppedNco o) _ (stepped-held o h)
-nco-next-held false o payload k h = stepped-held o h
+pub moved-held : (m : Modulator) → HeldModulator m → HeldModulator (nextModulator m)
+moved-held m h = record { nco = stepped-held (m .nco) (h .nco); phase = next-phase-fits (m .step) (m .phase); step = h .step }
 
-pub channel-held : (f : FskChannel) (payload : List ℕ) → HeldFsk f → HeldFsk (nextChannel f payload)
+keyed-held : (left : List Bool) (m : Modulator) → HeldModulator m → HeldModulator (nextKeyed left m)
+keyed-held [] m h = h
+keyed-held (bit ∷ left) m h = record { nco = retuned-held (m .nco) _ (h .nco); phase = h .phase; step = h .step }
+
+pub channel-held : (f : FskChannel) (payload : List ℕ) → HeldModulator (f .modulator) → HeldModulator (nextChannel f payload .modulator)
 unfolding nextChannel
-channel-held f payload h =
-    record {
-      nco = nco-next-held (symbolEnds (f .step) (f .phase)) (f .nco) payload (saturatingInc (f .done)) (h .nco);
-      phase = next-phase-fits (f .step) (f .phase);
-      step = h .step;
-    }
+channel-held f payload h = go (bitEnds (f .modulator))
+  where
+    go : (b : Bool) → HeldModulator (channelBy b f payload .modulator)
+    go true = keyed-held (drop (saturatingInc (f .done)) (framed payload)) (nextModulator (f .modulator)) (moved-held (f .modulator) h)
+    go false = moved-held (f .modulator) h
 
 -- ---- what is dialled
 taken-held : (stays : Bool) (i : ℕ) (on : Bool) (dial : Dial) (digits : List ℕ) (r : ℕ) → HeldNco (dial .a) × HeldNco (dial .b)
@@ -106,7 +111,7 @@ dialled-held false dial n digits r h =
     taken-held (pairStays (length digits) (digitAt t) (inTone t) (dial .digit) (dial .tone)) (digitAt t) (inTone t) _ digits r (gated-held (dial .tone) (dial .a) (dial .b) h)
 
 -- ---- states
-cj-held : (b : Bool) (f : FskChannel) (z r : ℕ) → HeldFsk f → Held (cjAt b f z r .state)
+cj-held : (b : Bool) (f : FskChannel) (z r : ℕ) → HeldModulator (f .modulator) → Held (cjAt b f z r .state)
 unfolding cjAt
 cj-held true f z r h = h
 cj-held false f z r h = channel-held f _ h

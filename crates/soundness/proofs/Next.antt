@@ -4,6 +4,7 @@ use mathlib.Core.Path.{_≡_, refl, sym, subst}
 use mathlib.Core.Bool.{Bool, true, false, _||_, true≢false}
 use mathlib.Core.List.{List}
 use Prim.Native.Nat.{ℕ, _+_, _^_, _≤_, _<_}
+use native.Mathlib.Nat.{le-of-lt}
 use native.Mathlib.Omega.{arith}
 use lib.Dec.{T, leb, ltb, eqb, lt→ltb, ltb→lt, lit≤}
 use lib.ListN.{length}
@@ -17,12 +18,14 @@ use Rattle.frame.specs.Frame.{ciPayload, cmJmPayload, cjPayload, trainingPayloa
 use Rattle.schedule.specs.Time.{timeAt, samplesIn, saturatingInc}
 use Rattle.schedule.specs.Dialling.{digitAt, inTone}
 use Rattle.schedule.specs.Ringback.{secondRing, ringBy, ringAt, ringTime, ringTone}
-use Rattle.schedule.specs.Symbols.{symbolEnds}
+use Rattle.schedule.specs.Symbols.{doneBy}
 use Rattle.schedule.specs.Length.{clickTime, ringbackTime, ansamTime, cjSilence, diallingLength}
 use Rattle.schedule.proofs.Count.{saturating-inc-is}
 use Rattle.schedule.proofs.Lengths.{dialling-range}
 use Rattle.fsk.specs.declared.FskChannel.{FskChannel}
+use Rattle.fsk.specs.Modulator.{bitEnds}
 use Rattle.fsk.specs.Channel.{nextChannel}
+use Rattle.fsk.proofs.Channel.{next-done}
 use Rattle.tones.specs.declared.Dial.{Dial}
 use Rattle.stage.specs.declared.StageState.{StageState}
 use Rattle.stage.specs.declared.StageState.the-variants.{OffHook, DialTone, Dialling, Ringback, Ci, Ansam, CmJm, Cj, Training, Connected}
@@ -31,12 +34,12 @@ use Rattle.stage.specs.Next.{offHookOf, dialToneOf, diallingOf, ringbackOf, ciO
 use Rattle.tones.specs.Mixed.{answerOf}
 use Rattle.tones.specs.Dial.{pairStays, takenOver, dialledBy, dialStepOf}
 use Rattle.soundness.specs.Sound.{rateOk, digitsOk, ncoOk, digitOk, ringOk, diallingOk, bitsOk, cjOk, stateOk, soundState}
-use Rattle.soundness.proofs.Held.{HeldNco, HeldFsk, Held}
+use Rattle.soundness.proofs.Held.{HeldNco, HeldModulator, Held}
 use Rattle.soundness.proofs.Limits.{holds, rate-low, rate-high, digits-few}
 use Rattle.soundness.proofs.Dialling.{goes-on}
 use Rattle.soundness.proofs.Parts.{tones-apart, tones-made, dialling-apart, dialling-made, ringback-apart, ringback-made, bits-apart, bits-made, cj-apart, cj-made}
 use Rattle.soundness.proofs.Oscillators.{fresh-ok, stepped-ok, gated-ok}
-use Rattle.soundness.proofs.Channels.{done-at-most, channel-ok}
+use Rattle.soundness.proofs.Channels.{channel-ok}
 use Rattle.soundness.proofs.Enter.{digit-hertz, enter-ok}
 
 ring-ok : (t : Float) → T (ringOk (ringAt t))
@@ -53,14 +56,20 @@ below-ok i d h = rw (lt-ltb i d h) tt
 
 module _ (r : ℕ) (lo : 8000 ≤ r) (hi : r ≤ 192000) where
   -- ---- bits
-  bits-ok : (f : FskChannel) (payload : List ℕ) (N : ℕ) → HeldFsk f → T (bitsOk f N r) → leb N (nextChannel f payload .done) ≡ false → T (bitsOk (nextChannel f payload) N r)
+  bits-ok : (f : FskChannel) (payload : List ℕ) (N : ℕ) → HeldModulator (f .modulator) → T (bitsOk f N r) → leb N (nextChannel f payload .done) ≡ false → T (bitsOk (nextChannel f payload) N r)
   bits-ok f payload N h k e = bits-made (nextChannel f payload) N r (channel-ok r lo hi f payload h (bits-apart f N r k)) (leb-false N (nextChannel f payload .done) e)
 
   done-few : (f : FskChannel) (payload : List ℕ) → f .done < 60 → nextChannel f payload .done ≤ 60
-  unfolding nextChannel
-  done-few f payload h = done-at-most (symbolEnds (f .step) (f .phase)) (f .done) 60 h (lit≤ tt)
+  done-few f payload h = rw (next-done f payload (below (f .done) h)) (go (bitEnds (f .modulator)))
+    where
+      below : (k : ℕ) → k < 60 → k < 0xffff_ffff
+      below k h = omega arith
 
-  cj-ok : (b : Bool) (f : FskChannel) (z d : ℕ) → leb 60 (f .done) ≡ b → HeldFsk f → T (cjOk f z r) → cjAt b f z r .finished ≡ false → T (stateOk (cjAt b f z r .state) d r)
+      go : (b : Bool) → doneBy b (f .done) ≤ 60
+      go true = h
+      go false = le-of-lt h
+
+  cj-ok : (b : Bool) (f : FskChannel) (z d : ℕ) → leb 60 (f .done) ≡ b → HeldModulator (f .modulator) → T (cjOk f z r) → cjAt b f z r .finished ≡ false → T (stateOk (cjAt b f z r .state) d r)
   unfolding cjAt stateOk
   cj-ok true f z d t h k e = let p = cj-apart f z r k in cj-made f (saturatingInc z) r (record { channel = p .channel; bits = p .bits; zeros = leb-false (samplesIn cjSilence r) (saturatingInc z) e })
   cj-ok false f z d t h k e =

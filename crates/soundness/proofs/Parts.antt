@@ -8,7 +8,7 @@ use Rattle.nco.specs.declared.Nco.{Nco}
 use Rattle.schedule.specs.Time.{samplesIn}
 use Rattle.schedule.specs.Length.{ringbackTime, cjSilence, diallingLength}
 use Rattle.fsk.specs.declared.FskChannel.{FskChannel}
-use Rattle.soundness.specs.Sound.{ncoOk, fskOk, digitOk, ringOk, tonesOk, diallingOk, ringbackOk, bitsOk, cjOk}
+use Rattle.soundness.specs.Sound.{ncoOk, modulatorOk, digitOk, ringOk, tonesOk, diallingOk, ringbackOk, bitsOk, cjOk}
 
 both : (a b : Bool) → T (a && b) → T a × T b
 both a b h = (and-l a b h, and-r a b h)
@@ -58,28 +58,28 @@ pub ringback-made : (a b : Nco) (n ring r : ℕ) → T (ringOk ring) → T (ncoO
 unfolding ringbackOk
 ringback-made a b n ring r k p h = and-i (ringOk ring) (tonesOk a b n ringbackTime r) k (tones-made a b n ringbackTime r p h)
 
-pub bits-apart : (f : FskChannel) (N r : ℕ) → T (bitsOk f N r) → T (fskOk f r)
+pub bits-apart : (f : FskChannel) (N r : ℕ) → T (bitsOk f N r) → T (modulatorOk (f .modulator) r)
 unfolding bitsOk
-bits-apart f N r h = and-l (fskOk f r) (ltb (f .done) N) h
+bits-apart f N r h = and-l (modulatorOk (f .modulator) r) (ltb (f .done) N) h
 
-pub bits-made : (f : FskChannel) (N r : ℕ) → T (fskOk f r) → f .done < N → T (bitsOk f N r)
+pub bits-made : (f : FskChannel) (N r : ℕ) → T (modulatorOk (f .modulator) r) → f .done < N → T (bitsOk f N r)
 unfolding bitsOk
-bits-made f N r k h = and-i (fskOk f r) (ltb (f .done) N) k (lt→ltb (f .done) N h)
+bits-made f N r k h = and-i (modulatorOk (f .modulator) r) (ltb (f .done) N) k (lt→ltb (f .done) N h)
 
 pub record CjParts (f : FskChannel) (z r : ℕ) : Type 0 where
-  pub channel : T (fskOk f r)
+  pub channel : T (modulatorOk (f .modulator) r)
   pub bits : f .done ≤ 60
   pub zeros : z < samplesIn cjSilence r
 
 pub cj-apart : (f : FskChannel) (z r : ℕ) → T (cjOk f z r) → CjParts f z r
 unfolding cjOk
 cj-apart f z r h =
-    let p = both (fskOk f r) (leb (f .done) 60 && ltb z (samplesIn cjSilence r)) h in
+    let p = both (modulatorOk (f .modulator) r) (leb (f .done) 60 && ltb z (samplesIn cjSilence r)) h in
     let q = both (leb (f .done) 60) (ltb z (samplesIn cjSilence r)) (p .1) in
     record { channel = p .0; bits = leb→le (f .done) 60 (q .0); zeros = ltb→lt z (samplesIn cjSilence r) (q .1) }
 
 pub cj-made : (f : FskChannel) (z r : ℕ) → CjParts f z r → T (cjOk f z r)
 unfolding cjOk
 cj-made f z r p =
-    and-i (fskOk f r) (leb (f .done) 60 && ltb z (samplesIn cjSilence r)) (p .channel)
+    and-i (modulatorOk (f .modulator) r) (leb (f .done) 60 && ltb z (samplesIn cjSilence r)) (p .channel)
     (and-i (leb (f .done) 60) (ltb z (samplesIn cjSilence r)) (le→leb (f .done) 60 (p .bits)) (lt→ltb z (samplesIn cjSilence r) (p .zeros)))

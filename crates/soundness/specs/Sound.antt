@@ -12,6 +12,7 @@ use Rattle.keys.specs.Keys.{allKeys}
 use Rattle.schedule.specs.Time.{minRate, maxRate, samplesIn}
 use Rattle.schedule.specs.Symbols.{symbolStep, inSymbol}
 use Rattle.schedule.specs.Length.{clickTime, ringbackTime, ansamTime, cjSilence, diallingLength}
+use Rattle.fsk.specs.declared.Modulator.{Modulator}
 use Rattle.fsk.specs.declared.FskChannel.{FskChannel}
 use Rattle.stage.specs.declared.StageState.{StageState}
 use Rattle.stage.specs.declared.StageState.the-variants.{OffHook, DialTone, Dialling, Ringback, Ci, Ansam, CmJm, Cj, Training, Connected}
@@ -29,8 +30,8 @@ unfoldable pub ncoOk : Nco → ℕ → Bool
 ncoOk o r = phaseInRange (o .phase) && (phaseInRange (o .step) && eq (o .rate) (ofNat r))
 
 -- symbol phase in [0, 1), symbol step 300 / r
-unfoldable pub fskOk : FskChannel → ℕ → Bool
-fskOk f r = ncoOk (f .nco) r && (inSymbol (f .phase) && eq (f .step) (symbolStep r))
+unfoldable pub modulatorOk : Modulator → ℕ → Bool
+modulatorOk m r = ncoOk (m .nco) r && (inSymbol (m .phase) && eq (m .step) (symbolStep r))
 
 -- digit position below d, or 0 with d = 0
 unfoldable pub digitOk : ℕ → ℕ → Bool
@@ -53,11 +54,11 @@ ringbackOk a b n ring r = ringOk ring && tonesOk a b n ringbackTime r
 
 -- bits done below the stage's own end, all N
 unfoldable pub bitsOk : FskChannel → ℕ → ℕ → Bool
-bitsOk f N r = fskOk f r && ltb (f .done) N
+bitsOk f N r = modulatorOk (f .modulator) r && ltb (f .done) N
 
 -- Cj zeros below the stage's own end, but Cj's bits may all be done
 unfoldable pub cjOk : FskChannel → ℕ → ℕ → Bool
-cjOk f z r = fskOk f r && (leb (f .done) 60 && ltb z (samplesIn cjSilence r))
+cjOk f z r = modulatorOk (f .modulator) r && (leb (f .done) 60 && ltb z (samplesIn cjSilence r))
 
 -- a state by its kind, of d digits at the rate r; the click's noise is any number
 unfoldable pub stateOk : StageState → ℕ → ℕ → Bool

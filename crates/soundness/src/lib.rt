@@ -1,6 +1,7 @@
 // Whether a stage's state is sound, as 01 lists it. Every call on a set asks, so no length is
 // looked for by counting: whether Dialling goes on is told by the digit at n alone.
 use fsk::FskChannel;
+use fsk::Modulator;
 use nco::Nco;
 use schedule::MAX_RATE;
 use schedule::MIN_RATE;
@@ -12,7 +13,7 @@ ghost use lib.Dec.{ltb};
 ghost use Rattle.schedule.specs.Time.{samplesIn};
 ghost use Rattle.schedule.specs.Symbols.{inSymbol};
 ghost use Rattle.schedule.specs.Length.{diallingLength};
-ghost use Rattle.soundness.specs.Sound.{rateOk, digitsOk, ncoOk, fskOk, digitOk, ringOk, tonesOk, diallingOk, ringbackOk, bitsOk, cjOk, stateOk, soundState};
+ghost use Rattle.soundness.specs.Sound.{rateOk, digitsOk, ncoOk, modulatorOk, digitOk, ringOk, tonesOk, diallingOk, ringbackOk, bitsOk, cjOk, stateOk, soundState};
 
 const MAX_DIGITS: usize = 76;
 
@@ -56,11 +57,11 @@ fn nco_ok(o: Nco, rate: u32) -> bool
 }
 
 // A symbol step is 300 / r.
-fn fsk_ok(fsk: FskChannel, rate: u32) -> bool
-    ensures { λ r. ⌜ r ≡ fskOk fsk rate ⌝ }
+pub fn modulator_ok(m: Modulator, rate: u32) -> bool
+    ensures { λ r. ⌜ r ≡ modulatorOk m rate ⌝ }
 {
-    let nco = fsk.nco;
-    nco_ok(nco, rate) & (in_symbol(fsk.phase) & (fsk.step == schedule::symbol_step(rate)))
+    let nco = m.nco;
+    nco_ok(nco, rate) & (in_symbol(m.phase) & (m.step == schedule::symbol_step(rate)))
 }
 
 // A digit position is below d, or 0 with d = 0.
@@ -116,14 +117,16 @@ fn ringback_ok(a: Nco, b: Nco, n: u32, ring: u8, rate: u32) -> bool
 fn bits_ok(fsk: FskChannel, bits: u32, rate: u32) -> bool
     ensures { λ r. ⌜ r ≡ bitsOk fsk bits rate ⌝ }
 {
-    fsk_ok(fsk, rate) & (fsk.done < bits)
+    let m = fsk.modulator;
+    modulator_ok(m, rate) & (fsk.done < bits)
 }
 
 // All of Cj's bits may be done: its zeros come after them.
 fn cj_ok(fsk: FskChannel, silence: u32, rate: u32) -> bool
     ensures { λ r. ⌜ r ≡ cjOk fsk silence rate ⌝ }
 {
-    fsk_ok(fsk, rate) & ((fsk.done <= CJ_BITS) & goes_on(silence, stage::CJ_SILENCE_S, rate))
+    let m = fsk.modulator;
+    modulator_ok(m, rate) & ((fsk.done <= CJ_BITS) & goes_on(silence, stage::CJ_SILENCE_S, rate))
 }
 
 // A state by its kind, once rate and digits are known to be in their limits.

@@ -33,21 +33,21 @@ mul-out : tie.Need-mul-out Inv-loop μ-loop
 mul-out c = search needs
 
 slice-write-out : tie.Need-slice-write-out Inv-loop μ-loop
-slice-write-out c = omega (arith, c .before .before .before .loop-test .taken)
+slice-write-out c = omega (arith, c .before .before .before .before .before .loop-test .taken)
 
 add-i : tie.Need-add-i Inv-loop μ-loop
 add-i c = search needs
 
 same-length : tie.Need-same-length Inv-loop μ-loop
-same-length c = simp length-set (c .before .before .before .before .before .before .loop .inv .0 .long)
+same-length c = simp length-set (c .before .before .before .before .before .before .before .before .loop .inv .0 .long)
 
 returns : tie.Need-returns Inv-loop μ-loop
 returns c =
     let n = c .before .before in
-    let w = n .before .before .before in
+    let w = n .before .before .before .before .before in
     sending-ended _ _ _ _ _ _ _ (w .before .loop .inv .0) (omega (arith, w .loop-test .taken)) _ _
     (rw (n .narrow .ensures, n .before .sample-twice .ensures .0))
-    (n .before .before .moved .ensures)
+    (n .before .before .before .before .moved .ensures)
     (c .if1 .taken)
 
 moved-requires-2 : tie.Need-moved-requires-2 Inv-loop μ-loop
@@ -57,27 +57,27 @@ narrow-requires-2 : tie.Need-narrow-requires-2 Inv-loop μ-loop
 narrow-requires-2 c κs = search needs
 
 mul-out-2 : tie.Need-mul-out-2 Inv-loop μ-loop
-mul-out-2 c = let w = c .before .before .before .before .before .before .before in omega (arith, w .loop-test .taken, w .before .loop .inv .0 .long, w .before .before .before .before .good)
+mul-out-2 c = let w = c .before .before .before .before .before .before .before .before .before in omega (arith, w .loop-test .taken, w .before .loop .inv .0 .long, w .before .before .before .before .good)
 
 slice-write-out-2 : tie.Need-slice-write-out-2 Inv-loop μ-loop
-slice-write-out-2 c = let w = c .before .before .before .before .before .before .before in simp length-set (omega (arith, w .loop-test .taken))
+slice-write-out-2 c = let w = c .before .before .before .before .before .before .before .before .before in simp length-set (omega (arith, w .loop-test .taken))
 
 add-i-2 : tie.Need-add-i-2 Inv-loop μ-loop
-add-i-2 c = let w = c .before .before .before .before .before .before .before in omega (arith, w .loop-test .taken, w .before .loop .inv .0 .long, w .before .before .before .before .good)
+add-i-2 c = let w = c .before .before .before .before .before .before .before .before .before in omega (arith, w .loop-test .taken, w .before .loop .inv .0 .long, w .before .before .before .before .good)
 
 same-length-2 : tie.Need-same-length-2 Inv-loop μ-loop
-same-length-2 c = simp (length-set, length-set) (c .before .before .before .before .before .before .before .before .before .before .loop .inv .0 .long)
+same-length-2 c = simp (length-set, length-set) (c .before .before .before .before .before .before .before .before .before .before .before .before .loop .inv .0 .long)
 
 returns-2 : tie.Need-returns-2 Inv-loop μ-loop
 returns-2 c =
     let n2 = c .before .before in
     let e = n2 .before .before in
     let n = e .before .before in
-    let w = n .before .before .before in
+    let w = n .before .before .before .before .before in
     sending-ended _ _ _ _ _ _ _
     (sending-again _ _ _ _ _ _ _ (w .before .loop .inv .0) (omega (arith, w .loop-test .taken)) _ _
     (rw (n .narrow .ensures, n .before .sample-twice .ensures .0))
-    (n .before .before .moved .ensures)
+    (n .before .before .before .before .moved .ensures)
     (e .if1 .left))
     (simp length-set (omega (arith, w .loop-test .taken))) _ _
     (rw (n2 .narrow2 .ensures, n .before .sample-twice .ensures .1))
@@ -86,7 +86,7 @@ returns-2 c =
 
 loop-less : tie.Need-loop-less Inv-loop μ-loop
 loop-less c =
-    let w = c .before .before .before .before .before .before .before .before .before in
+    let w = c .before .before .before .before .before .before .before .before .before .before .before in
     omega (arith, w .before .loop .inv .0 .long, w .loop-test .taken)
 
 loop-again : tie.Need-loop-again Inv-loop μ-loop
@@ -94,11 +94,11 @@ loop-again c =
     let n2 = c .before .before in
     let e = n2 .before .before in
     let n = e .before .before in
-    let w = n .before .before .before in (
+    let w = n .before .before .before .before .before in (
       sending-again _ _ _ _ _ _ _
           (sending-again _ _ _ _ _ _ _ (w .before .loop .inv .0) (omega (arith, w .loop-test .taken)) _ _
           (rw (n .narrow .ensures, n .before .sample-twice .ensures .0))
-          (n .before .before .moved .ensures)
+          (n .before .before .before .before .moved .ensures)
           (e .if1 .left))
           (simp length-set (omega (arith, w .loop-test .taken))) _ _
           (rw (n2 .narrow2 .ensures, n .before .sample-twice .ensures .1))

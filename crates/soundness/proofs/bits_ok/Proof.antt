@@ -4,12 +4,12 @@ use borrow.Author.Needs.{needs}
 use Rattle.soundness.proofs.bits_ok.Statement.{statement}
 use Rattle.soundness.proofs.bits_ok.Tie as tie
 
-fsk-ok-requires : tie.Need-fsk-ok-requires
-fsk-ok-requires c κs = search needs
+modulator-ok-requires : tie.Need-modulator-ok-requires
+modulator-ok-requires c κs = search needs
 
 returns : tie.Need-returns
 unfolding bitsOk
-returns c = rw (c .before .fsk-ok .ensures)
+returns c = rw (c .before .modulator-ok .ensures)
 
 pub bits-ok-spec : {M : Type 1} → statement M
-bits-ok-spec = tie.close (tie.spec fsk-ok-requires returns)
+bits-ok-spec = tie.close (tie.spec modulator-ok-requires returns)

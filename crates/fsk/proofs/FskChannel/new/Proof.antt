@@ -1,35 +1,19 @@
 -- `FskChannel::new` meets its contract, by what its calls ensure. Assumes nothing.
 use borrow.Author.Needs.{needs}
 use Rattle.fsk.specs.Channel.{freshChannel}
+use Rattle.fsk.proofs.Channel.{mark-is, space-is}
 use Rattle.fsk.proofs.FskChannel.new.Statement.{statement}
 use Rattle.fsk.proofs.FskChannel.new.Tie as tie
 
 payload-bit-requires : tie.Need-payload-bit-requires
 payload-bit-requires c κs = search needs
 
-tone-requires : tie.Need-tone-requires
-tone-requires c κs = search needs
-
-int-to-float-new : tie.Need-int-to-float-new
-int-to-float-new c = search needs
-
 new-requires : tie.Need-new-requires
 new-requires c κs = search needs
 
-symbol-step-requires : tie.Need-symbol-step-requires
-symbol-step-requires c κs = search needs
-
 returns : tie.Need-returns
 unfolding freshChannel
-returns c = rw (c .symbol-step .ensures, c .before .new .ensures, c .before .before .before .tone .ensures, c .before .before .before .before .payload-bit .ensures)
+returns c = rw (c .new .ensures, c .before .payload-bit .ensures, mark-is, space-is)
 
 pub new-spec : {M : Type 1} → statement M
-new-spec =
-    tie.close
-    (tie.spec
-    payload-bit-requires
-    tone-requires
-    int-to-float-new
-    new-requires
-    symbol-step-requires
-    returns)
+new-spec = tie.close (tie.spec payload-bit-requires new-requires returns)

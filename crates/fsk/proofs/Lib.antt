@@ -1,0 +1,2 @@
+-- Laws on channels.
+pub mod Channel
