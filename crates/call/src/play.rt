@@ -23,7 +23,7 @@ const LENGTHS: [usize; 16] = [
 ];
 
 // A recording under way.
-struct Reel {
+struct Recording {
     set: Set,
     // samples that are still to be written
     left: u32,
@@ -31,8 +31,8 @@ struct Reel {
     good: bool,
 }
 
-pub fn length(turn: u32) -> usize {
-    let place = (turn % 16) as usize;
+pub fn length(fill: u32) -> usize {
+    let place = (fill % 16) as usize;
     LENGTHS[place]
 }
 
@@ -71,49 +71,60 @@ pub fn record(file: i32, set: Set, total: u32, samples: &mut [f32]) -> bool {
     let mut bytes = [0u8; 16384];
     let header = samples::wav::header(total, set.rate());
     let good = io::write_all(file, &header);
-    let reel = Reel {
+    let recording = Recording {
         set,
         left: total,
         good,
     };
-    let end = record_all(file, reel, samples, &mut bytes);
+    let end = record_all(file, recording, samples, &mut bytes);
     end.good
 }
 
-// A proved loop has to end: no call has as many turns as this one allows.
-fn record_all(file: i32, reel: Reel, samples: &mut [f32], bytes: &mut [u8]) -> Reel {
-    let mut r = reel;
-    let mut turn: u32 = 0;
-    while turn < u32::MAX && goes_on(r) {
-        r = record_fill(file, r, length(turn), samples, bytes);
-        turn += 1;
+// A proved loop has to end: no call has as many fills as this one allows.
+fn record_all(file: i32, recording: Recording, samples: &mut [f32], bytes: &mut [u8]) -> Recording {
+    let mut r = recording;
+    let mut fill: u32 = 0;
+    while fill < u32::MAX && goes_on(r) {
+        r = record_fill(file, r, length(fill), samples, bytes);
+        fill += 1;
     }
     r
 }
 
-fn goes_on(reel: Reel) -> bool {
-    let set = reel.set;
-    reel.good & is_dialling(set)
+fn goes_on(recording: Recording) -> bool {
+    let set = recording.set;
+    recording.good & is_dialling(set)
 }
 
-fn record_fill(file: i32, reel: Reel, n: usize, samples: &mut [f32], bytes: &mut [u8]) -> Reel {
+fn record_fill(
+    file: i32,
+    recording: Recording,
+    n: usize,
+    samples: &mut [f32],
+    bytes: &mut [u8],
+) -> Recording {
     let none: usize = 0;
     if n > samples.len() {
-        return reel;
+        return recording;
     }
-    record_part(file, reel, &mut samples[none..n], bytes)
+    record_part(file, recording, &mut samples[none..n], bytes)
 }
 
 // Samples past the overture are not written.
-fn record_part(file: i32, reel: Reel, samples: &mut [f32], bytes: &mut [u8]) -> Reel {
+fn record_part(
+    file: i32,
+    recording: Recording,
+    samples: &mut [f32],
+    bytes: &mut [u8],
+) -> Recording {
     let none: usize = 0;
-    let set = reel.set;
-    let left = reel.left;
+    let set = recording.set;
+    let left = recording.left;
     let filled = set.process_out(samples);
     let next = filled.set;
     let kept = at_most(samples.len(), left);
     let good = write(file, &samples[none..kept as usize], bytes);
-    Reel {
+    Recording {
         set: next,
         left: left - kept,
         good,

@@ -5,10 +5,10 @@ use set::Set;
 // Makes the fills until the line is up, and notes the first sample of each stage at its number.
 pub fn find_all(set: Set, samples: &mut [f32], firsts: &mut [u32]) -> Set {
     let mut s = set;
-    let mut turn: u32 = 0;
-    while turn < u32::MAX && play::is_dialling(s) {
-        s = find_in(s, play::length(turn), samples, firsts);
-        turn += 1;
+    let mut fill: u32 = 0;
+    while fill < u32::MAX && play::is_dialling(s) {
+        s = find_in(s, play::length(fill), samples, firsts);
+        fill += 1;
     }
     s
 }
@@ -24,21 +24,21 @@ fn find_in(set: Set, n: usize, samples: &mut [f32], firsts: &mut [u32]) -> Set {
     let next = filled.set;
     note(
         set,
-        edges::lit(set),
-        edges::lit(next),
+        edges::icon(set).icon,
+        edges::icon(next).icon,
         &mut samples[none..some],
         firsts,
     );
     next
 }
 
-// Notes the stages that a fill lit.
+// Notes the stages that a fill reached.
 fn note(set: Set, before: u8, after: u8, samples: &mut [f32], firsts: &mut [u32]) {
     let mut stage = before;
     while stage < after {
         stage += 1;
-        let k = edges::first_lit(set, stage, samples);
-        let first = std::num::wrapping_add_u32(set.m(), play::at_most(k, u32::MAX));
+        let found = edges::first_sample(set, stage, samples);
+        let first = std::num::wrapping_add_u32(set.m(), play::at_most(found.sample, u32::MAX));
         put(firsts, stage as usize, first);
     }
 }

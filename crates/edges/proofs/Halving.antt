@@ -1,4 +1,5 @@
--- The search for a stage's first sample in a buffer of n: `dark` samples do not light the stage, `bright` samples do, if n do. Assumes nothing.
+-- The search for a stage's first sample in a fill of n: with `low` samples the stage is not reached, with `high` samples it is, if it is
+-- with n. Assumes nothing.
 use Prim.Native.Nat.{ℕ, _+_, _-_, _<_, _≤_}
 use mathlib.Core.Bool.{true, false}
 use mathlib.Core.Path.{_≡_}
@@ -6,30 +7,30 @@ use native.Mathlib.Omega.{arith}
 use borrow.Author.Tests.{leb-true, leb-false}
 use lib.Dec.{leb}
 use Rattle.set.specs.declared.Set.{Set}
-use Rattle.edges.specs.Lit.{litAfter, FirstLit}
+use Rattle.edges.specs.Icon.{iconAfter, IsFirst}
 
-pub record Between (s : Set) (stage n dark bright : ℕ) : Type 0 where
+pub record Between (s : Set) (stage n low high : ℕ) : Type 0 where
   -- below it, but for an empty buffer
-  pub below : dark < bright + (1 - bright)
-  pub within : bright ≤ n
-  pub dim : 0 < dark → litAfter s dark < stage
-  pub lit : stage ≤ litAfter s n → stage ≤ litAfter s bright
+  pub below : low < high + (1 - high)
+  pub within : high ≤ n
+  pub not-yet : 0 < low → iconAfter s low < stage
+  pub shows : stage ≤ iconAfter s n → stage ≤ iconAfter s high
 
-pub whole : (s : Set) (stage n : ℕ) → Between s stage n 0 n
-whole s stage n = record { below = omega arith; within = omega arith; dim = λ h. absurd (omega arith); lit = λ h. h }
+module _ {s : Set} {stage n : ℕ} where
+  pub whole : Between s stage n 0 n
+  whole = record { below = omega arith; within = omega arith; not-yet = λ h. absurd (omega arith); shows = λ h. h }
 
-pub brighter : {s : Set} {stage n dark bright : ℕ} → Between s stage n dark bright → (m : ℕ) → dark < m → m < bright → leb stage (litAfter s m) ≡ true → Between s stage n dark m
-brighter b m above under e = record { below = omega arith; within = omega arith; dim = b .dim; lit = λ h. leb-true _ _ e }
+  module _ {low high : ℕ} (b : Between s stage n low high) where
+    pub lower-half : (m : ℕ) → low < m → m < high → leb stage (iconAfter s m) ≡ true → Between s stage n low m
+    lower-half m above under e = record { below = omega arith; within = omega (arith, b .within); not-yet = b .not-yet; shows = λ h. leb-true _ _ e }
 
-pub darker : {s : Set} {stage n dark bright : ℕ} → Between s stage n dark bright → (m : ℕ) → dark < m → m < bright → leb stage (litAfter s m) ≡ false → Between s stage n m bright
-darker b m above under e = record { below = omega arith; within = b .within; dim = λ h. leb-false _ _ e; lit = b .lit }
+    pub upper-half : (m : ℕ) → low < m → m < high → leb stage (iconAfter s m) ≡ false → Between s stage n m high
+    upper-half m above under e = record { below = omega arith; within = b .within; not-yet = λ h. leb-false _ _ e; shows = b .shows }
 
-pub found : {s : Set} {stage n dark bright : ℕ} → Between s stage n dark bright → bright - dark ≤ 1 → FirstLit s stage n bright
-unfolding FirstLit
-found {s} {stage} {n} {dark} {bright} b h = (
-  b .within,
-  (
-    λ more. let e : bright - 1 ≡ dark = omega arith in rw e (b .dim (omega arith)),
-    b .lit,
-  ),
-)
+    pub found : high - low ≤ 1 → IsFirst s stage n high
+    found h =
+        record {
+          within = b .within;
+          before = λ more. let e : high - 1 ≡ low = omega (arith, b .below, h, more) in rw e (b .not-yet (omega (arith, b .below, h, more)));
+          shows = b .shows;
+        }

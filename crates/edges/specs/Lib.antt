@@ -1,1 +1,1 @@
-pub mod Lit
+pub mod Icon

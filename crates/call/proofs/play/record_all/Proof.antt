@@ -1,4 +1,4 @@
--- `call::play::record_all` is safe and ends: the measure is the number of turns that are left. Assumes nothing.
+-- `call::play::record_all` is safe and ends: the measure is the number of fills that are left. Assumes nothing.
 use Prim.Native.Nat.{_-_}
 use mathlib.Core.Path.{_≡_}
 use lib.ListN.{length}
@@ -7,10 +7,10 @@ use Rattle.call.proofs.play.record_all.Statement.{statement}
 use Rattle.call.proofs.play.record_all.Tie as tie
 
 abbrev Inv-loop : tie.InvT-loop
-Inv-loop file samples₀ bytes₀ r₀ turn₀ samples bytes r turn = (length samples ≡ length samples₀) × (length bytes ≡ length bytes₀)
+Inv-loop file samples₀ bytes₀ r₀ fill₀ samples bytes r fill = (length samples ≡ length samples₀) × (length bytes ≡ length bytes₀)
 
 abbrev μ-loop : tie.MeasureT-loop
-μ-loop file samples₀ bytes₀ r₀ turn₀ samples bytes r turn = 4294967295 - turn
+μ-loop file samples₀ bytes₀ r₀ fill₀ samples bytes r fill = 4294967295 - fill
 
 loop-holds : tie.Need-loop-holds Inv-loop μ-loop
 loop-holds c = search needs
@@ -24,8 +24,8 @@ length-requires c κs = search needs
 record-fill-requires : tie.Need-record-fill-requires Inv-loop μ-loop
 record-fill-requires c κs = search needs
 
-add-turn : tie.Need-add-turn Inv-loop μ-loop
-add-turn c = search needs
+add-fill : tie.Need-add-fill Inv-loop μ-loop
+add-fill c = search needs
 
 loop-less : tie.Need-loop-less Inv-loop μ-loop
 loop-less c = search needs
@@ -61,7 +61,7 @@ record-all-spec =
     goes-on-requires
     length-requires
     record-fill-requires
-    add-turn
+    add-fill
     loop-less
     loop-again
     same-length

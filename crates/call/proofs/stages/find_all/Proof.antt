@@ -1,4 +1,4 @@
--- `call::stages::find_all` is safe and ends: the measure is the number of turns that are left. Assumes nothing.
+-- `call::stages::find_all` is safe and ends: the measure is the number of fills that are left. Assumes nothing.
 use Prim.Native.Nat.{_-_}
 use mathlib.Core.Path.{_≡_}
 use lib.ListN.{length}
@@ -7,10 +7,10 @@ use Rattle.call.proofs.stages.find_all.Statement.{statement}
 use Rattle.call.proofs.stages.find_all.Tie as tie
 
 abbrev Inv-loop : tie.InvT-loop
-Inv-loop samples₀ firsts₀ s₀ turn₀ samples firsts s turn = (length samples ≡ length samples₀) × (length firsts ≡ length firsts₀)
+Inv-loop samples₀ firsts₀ s₀ fill₀ samples firsts s fill = (length samples ≡ length samples₀) × (length firsts ≡ length firsts₀)
 
 abbrev μ-loop : tie.MeasureT-loop
-μ-loop samples₀ firsts₀ s₀ turn₀ samples firsts s turn = 4294967295 - turn
+μ-loop samples₀ firsts₀ s₀ fill₀ samples firsts s fill = 4294967295 - fill
 
 loop-holds : tie.Need-loop-holds Inv-loop μ-loop
 loop-holds c = search needs
@@ -24,8 +24,8 @@ length-requires c κs = search needs
 find-in-requires : tie.Need-find-in-requires Inv-loop μ-loop
 find-in-requires c κs = search needs
 
-add-turn : tie.Need-add-turn Inv-loop μ-loop
-add-turn c = search needs
+add-fill : tie.Need-add-fill Inv-loop μ-loop
+add-fill c = search needs
 
 loop-less : tie.Need-loop-less Inv-loop μ-loop
 loop-less c = search needs
@@ -61,7 +61,7 @@ find-all-spec =
     is-dialling-requires
     length-requires
     find-in-requires
-    add-turn
+    add-fill
     loop-less
     loop-again
     same-length

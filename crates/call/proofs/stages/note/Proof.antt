@@ -18,8 +18,8 @@ loop-holds c = search needs
 add-stage : tie.Need-add-stage Inv-loop μ-loop
 add-stage c = search needs
 
-first-lit-requires : tie.Need-first-lit-requires Inv-loop μ-loop
-first-lit-requires c κs = search needs
+first-sample-requires : tie.Need-first-sample-requires Inv-loop μ-loop
+first-sample-requires c κs = search needs
 
 m-requires : tie.Need-m-requires Inv-loop μ-loop
 m-requires c κs = search needs
@@ -59,7 +59,7 @@ note-spec =
     μ-loop
     loop-holds
     add-stage
-    first-lit-requires
+    first-sample-requires
     m-requires
     at-most-requires
     wrapping-add-u32-requires

@@ -1,10 +1,10 @@
--- `edges::lights` meets its contract: the set that the fill returns is the definition's. Assumes nothing.
+-- `edges::shows` meets its contract: the set that the fill returns is the definition's. Assumes nothing.
 use native.Mathlib.Nat.{sub-zero}
 use lib.Seq.{length-take-le}
-use Rattle.edges.specs.Lit.{litAfter}
+use Rattle.edges.specs.Icon.{iconAfter}
 use borrow.Author.Needs.{needs}
-use Rattle.edges.proofs.lights.Statement.{statement}
-use Rattle.edges.proofs.lights.Tie as tie
+use Rattle.edges.proofs.shows.Statement.{statement}
+use Rattle.edges.proofs.shows.Tie as tie
 
 mul-process-out : tie.Need-mul-process-out
 mul-process-out c = search needs
@@ -21,18 +21,18 @@ part-process-out-end c = search needs
 process-out-requires : tie.Need-process-out-requires
 process-out-requires c κs = search needs
 
-lit-requires : tie.Need-lit-requires
-lit-requires c κs = search needs
+icon-number-requires : tie.Need-icon-number-requires
+icon-number-requires c κs = search needs
 
 same-length : tie.Need-same-length
 same-length c = search needs
 
 returns : tie.Need-returns
-unfolding litAfter
-returns c = rw (c .lit .ensures, c .before .before .before .before .process-out .ensures .0, sub-zero, length-take-le _ _ (c .before .before .before .before .before .before .before .pre))
+unfolding iconAfter
+returns c = rw (c .icon-number .ensures, c .before .before .before .before .process-out .ensures .0, sub-zero, length-take-le _ _ (c .before .before .before .before .before .before .before .pre))
 
-pub lights-spec : {M : Type 1} → statement M
-lights-spec =
+pub shows-spec : {M : Type 1} → statement M
+shows-spec =
     tie.close
     (tie.spec
     mul-process-out
@@ -40,6 +40,6 @@ lights-spec =
     part-process-out-start
     part-process-out-end
     process-out-requires
-    lit-requires
+    icon-number-requires
     same-length
     returns)
