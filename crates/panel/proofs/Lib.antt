@@ -1,2 +1,2 @@
 -- What the functions' proofs cite.
-mod Sent
+mod Room

@@ -1,6 +1,6 @@
 -- 01, "Proving cases", the program `wall`: the set after a line's call, and what is printed for the line.
 use Prim.Native.Nat.{ℕ}
-use mathlib.Core.Bool.{Bool, true}
+use mathlib.Core.Bool.{Bool, true, false}
 use mathlib.Core.List.{List, []}
 use lib.Dec.{leb}
 use Rattle.console.specs.declared.lines.Call.{Call}
@@ -10,7 +10,6 @@ use Rattle.reply.specs.declared.Reply.the-variants as reply
 use Rattle.reply.specs.Codes.{firstOf, secondOf}
 use Rattle.at.specs.Processor.{commandMode}
 use Rattle.session.specs.Session.{stateNumber}
-use Rattle.set.specs.declared.Refusal.{Refusal}
 use Rattle.set.specs.declared.Set.{Set}
 use Rattle.set.specs.declared.Made.{Made}
 use Rattle.set.specs.declared.Typed.{Typed}
@@ -24,10 +23,10 @@ use Rattle.report.specs.Report.{reportLine}
 use Rattle.panel.specs.declared.shown.Shown.{Shown}
 
 -- refusal (0 none), mode C or D, state, stage, m, two codes (0 none)
-abbrev pub reportOf : Set → Refusal → Reply → Report
+abbrev pub reportOf : Set → ℕ → Reply → Report
 reportOf set refusal reply =
     record {
-      refusal = refusalNumber refusal;
+      refusal = refusal;
       «in_command_mode» = commandMode (set .processor);
       state = stateNumber (set .session .state);
       stage = set .session .shown;
@@ -36,48 +35,47 @@ reportOf set refusal reply =
       second = secondOf reply;
     }
 
--- the set's answers: creation, forced data and a fill have no reply, and a typed byte alone sends
-abbrev pub shownOf : Set → Refusal → Reply → ℕ → Shown
-shownOf set refusal reply sent = record { set = set; report = reportOf set refusal reply; sent = sent }
+abbrev pub shownOf : Set → ℕ → Reply → ℕ → Bool → Shown
+shownOf set refusal reply sent prints = record { set = set; report = reportOf set refusal reply; sent = sent; prints = prints }
 
+-- other lines leave the set and print nothing
+abbrev pub nothingShown : Set → Shown
+nothingShown s = shownOf s 0 reply.None 0 false
+
+-- the set's answers: creation, forced data and a fill have no reply, and a typed byte alone sends
 abbrev pub madeShown : Made → Shown
-madeShown a = shownOf (a .set) (a .refusal) reply.None 0
+madeShown a = shownOf (a .set) (refusalNumber (a .refusal)) reply.None 0 true
 
 abbrev pub typedShown : Typed → Shown
-typedShown a = shownOf (a .set) (a .refusal) (a .reply) (a .sent)
+typedShown a = shownOf (a .set) (refusalNumber (a .refusal)) (a .reply) (a .sent) true
 
 abbrev pub lapsedShown : Lapsed → Shown
-lapsedShown a = shownOf (a .set) (a .refusal) (a .reply) 0
+lapsedShown a = shownOf (a .set) (refusalNumber (a .refusal)) (a .reply) 0 true
 
 abbrev pub forcedShown : Forced → Shown
-forcedShown a = shownOf (a .set) (a .refusal) reply.None 0
+forcedShown a = shownOf (a .set) (refusalNumber (a .refusal)) reply.None 0 true
 
 abbrev pub filledShown : Filled → Shown
-filledShown a = shownOf (a .set) (a .refusal) reply.None 0
+filledShown a = shownOf (a .set) (refusalNumber (a .refusal)) reply.None 0 true
 
--- the set after a line: R,rate / T,byte,carrier / W,ns,carrier / F,length / D; other lines leave it
-abbrev pub setAfter : Set → Call → Set
-setAfter s (call.Rate rate) = made rate .set
-setAfter s (call.Typed byte carrier outbox) = typed s byte carrier outbox .set
-setAfter s (call.Lapse ns carrier) = lapsed s ns carrier .set
-setAfter s (call.Fill length) = fill s length .set
-setAfter s call.ForcedData = forced s .set
-setAfter s call.Other = s
+-- a call that asks for more room than there is counts as another line: no line that is read does
+abbrev pub ifRoom : Bool → Set → Shown → Shown
+ifRoom true s shown = shown
+ifRoom false s shown = nothingShown s
 
--- the line printed; other lines print nothing
-abbrev pub lineAfter : Set → Call → List ℕ
-lineAfter s (call.Rate rate) = reportLine (madeShown (made rate) .report)
-lineAfter s (call.Typed byte carrier outbox) = reportLine (typedShown (typed s byte carrier outbox) .report)
-lineAfter s (call.Lapse ns carrier) = reportLine (lapsedShown (lapsed s ns carrier) .report)
-lineAfter s (call.Fill length) = reportLine (filledShown (fill s length) .report)
-lineAfter s call.ForcedData = reportLine (forcedShown (forced s) .report)
-lineAfter s call.Other = []
+-- R,rate / T,byte,carrier / W,ns,carrier / F,length / D; with room for an outbox of so many bytes and for so many samples
+abbrev pub shownAfter : (bytes samples : ℕ) → Set → Call → Shown
+shownAfter bytes samples s (call.Rate rate) = madeShown (made rate)
+shownAfter bytes samples s (call.Typed byte carrier outbox) = ifRoom (leb outbox bytes) s (typedShown (typed s byte carrier outbox))
+shownAfter bytes samples s (call.Lapse ns carrier) = lapsedShown (lapsed s ns carrier)
+shownAfter bytes samples s (call.Fill length) = ifRoom (leb length samples) s (filledShown (fill s length))
+shownAfter bytes samples s call.ForcedData = forcedShown (forced s)
+shownAfter bytes samples s call.Other = nothingShown s
 
--- whether there is room for what a call is lent: an outbox of up to 16 bytes, and so many samples
-abbrev pub roomFor : ℕ → Call → Bool
-roomFor samples (call.Rate rate) = true
-roomFor samples (call.Typed byte carrier outbox) = leb outbox 16
-roomFor samples (call.Lapse ns carrier) = true
-roomFor samples (call.Fill length) = leb length samples
-roomFor samples call.ForcedData = true
-roomFor samples call.Other = true
+-- the line printed
+abbrev pub lineIf : Bool → Report → List ℕ
+lineIf true report = reportLine report
+lineIf false report = []
+
+abbrev pub lineOf : Shown → List ℕ
+lineOf shown = lineIf (shown .prints) (shown .report)

@@ -6,13 +6,10 @@ use console::lines::Pushed;
 use set::Set;
 use shown::Shown;
 ghost use mathlib.Core.Path.{_≡_};
-ghost use mathlib.Core.Bool.{true, false};
-ghost use lib.Dec.{leb};
+ghost use mathlib.Core.Bool.{false};
 ghost use lib.ListN.{length};
 ghost use Rattle.text.specs.Text.{pageOf, addOf};
-ghost use Rattle.report.specs.Report.{reportLine};
-ghost use Rattle.set.specs.Set.{typed, fill};
-ghost use Rattle.panel.specs.Wall.{typedShown, filledShown, setAfter, lineAfter, roomFor};
+ghost use Rattle.panel.specs.Wall.{shownAfter, lineOf};
 
 mod page;
 mod shown;
@@ -53,14 +50,14 @@ fn fresh(extended: bool, bits: bool) -> Panel {
     }
 }
 
-// A proved loop has to end, and nothing says that the input does: the loop counts its turns down
-// from a number that no run uses up.
+// A proved loop has to end, and nothing says that the input does: the loop counts down from a number
+// that no run uses up.
 fn read_all(p: Panel, samples: &mut [f32], out: &mut [u8]) -> Panel {
     let mut s = p;
-    let mut turns = u64::MAX;
-    while turns > 0 && s.open {
+    let mut left = u64::MAX;
+    while left > 0 && s.open {
         s = read_some(s, samples, out);
-        turns -= 1;
+        left -= 1;
     }
     s
 }
@@ -121,118 +118,36 @@ fn flushed(p: Panel, out: &[u8]) -> Panel {
     Panel { at: front, ..p }
 }
 
-// A call on the set. Where there is room for what it is lent, the set is the call's, and without
-// `tap`'s second line what is added to the page is 01's line.
+// What a line leaves: the set after its call, and, without `tap`'s second line, 01's line on the page.
 fn perform(p: Panel, call: Call, samples: &mut [f32], out: &mut [u8]) -> Panel
-    ensures { λ r. ⌜ (roomFor (length (now (samples .entry))) call ≡ true → r .set ≡ setAfter (p .set) call) ⌝ }
-    ensures { λ r. ⌜ (roomFor (length (now (samples .entry))) call ≡ true → p .bits ≡ false → pageOf (now (out .exit)) (r .at) ≡ addOf (pageOf (now (out .entry)) (p .at)) (lineAfter (p .set) call)) ⌝ }
-{
-    let set = p.set;
-    match call {
-        Call::Rate(rate) => answered(p, shown::made(rate), b"", out),
-        Call::Typed {
-            byte,
-            carrier,
-            outbox,
-        } => typed(p, byte, carrier, outbox, out),
-        Call::Lapse { ns, carrier } => answered(p, shown::lapsed(set, ns, carrier), b"", out),
-        Call::Fill(n) => filled(p, n, samples, out),
-        Call::ForcedData => answered(p, shown::forced(set), b"", out),
-        Call::Other => p,
-    }
-}
-
-// The answer of any call but a fill.
-fn answered(p: Panel, s: Shown, sent: &[u8], out: &mut [u8]) -> Panel
-    ensures { λ r. ⌜ r .set ≡ s .set ⌝ }
-    ensures { λ r. ⌜ (p .bits ≡ false → pageOf (now (out .exit)) (r .at) ≡ addOf (pageOf (now (out .entry)) (p .at)) (reportLine (s .report))) ⌝ }
-{
-    let set = s.set;
-    let line = s.report;
-    let first = report::put_report(out, p.at, line);
-    if p.bits {
-        let second = page::put_bits(out, first, set, sent);
-        return Panel {
-            set,
-            at: second,
-            ..p
-        };
-    }
-    Panel {
-        set,
-        at: first,
-        ..p
-    }
-}
-
-// No line names an outbox of more than 16 bytes.
-fn typed(p: Panel, byte: u8, carrier: bool, n: usize, out: &mut [u8]) -> Panel
-    ensures { λ r. ⌜ (leb n 16 ≡ true → r .set ≡ typed (p .set) byte carrier n .set) ⌝ }
-    ensures { λ r. ⌜ (leb n 16 ≡ true → p .bits ≡ false → pageOf (now (out .exit)) (r .at) ≡ addOf (pageOf (now (out .entry)) (p .at)) (reportLine (typedShown (typed (p .set) byte carrier n) .report))) ⌝ }
+    ensures { λ r. ⌜ r .set ≡ shownAfter 16 (length (now (samples .entry))) (p .set) call .set ⌝ }
+    ensures { λ r. ⌜ (p .bits ≡ false → pageOf (now (out .exit)) (r .at) ≡ addOf (pageOf (now (out .entry)) (p .at)) (lineOf (shownAfter 16 (length (now (samples .entry))) (p .set) call))) ⌝ }
 {
     let mut outbox = [0u8; 16];
-    let none: usize = 0;
-    if n > 16 {
-        return p;
-    }
-    feed(p, byte, carrier, &mut outbox[none..n], out)
-}
-
-// No call sends more than the outbox holds.
-fn feed(p: Panel, byte: u8, carrier: bool, outbox: &mut [u8], out: &mut [u8]) -> Panel
-    ensures { λ r. ⌜ r .set ≡ typed (p .set) byte carrier (length (now (outbox .entry))) .set ⌝ }
-    ensures { λ r. ⌜ (p .bits ≡ false → pageOf (now (out .exit)) (r .at) ≡ addOf (pageOf (now (out .entry)) (p .at)) (reportLine (typedShown (typed (p .set) byte carrier (length (now (outbox .entry)))) .report))) ⌝ }
-{
-    let none: usize = 0;
-    let s = shown::typed(p.set, byte, carrier, outbox);
-    let sent = s.sent;
-    if sent > outbox.len() {
-        return p;
-    }
-    answered(p, s, &outbox[none..sent], out)
-}
-
-// No line asks for more samples than there is room for.
-fn filled(p: Panel, n: usize, samples: &mut [f32], out: &mut [u8]) -> Panel
-    ensures { λ r. ⌜ (leb n (length (now (samples .entry))) ≡ true → r .set ≡ fill (p .set) n .set) ⌝ }
-    ensures { λ r. ⌜ (leb n (length (now (samples .entry))) ≡ true → p .bits ≡ false → pageOf (now (out .exit)) (r .at) ≡ addOf (pageOf (now (out .entry)) (p .at)) (reportLine (filledShown (fill (p .set) n) .report))) ⌝ }
-{
-    let none: usize = 0;
-    if n > samples.len() {
-        return p;
-    }
-    fill(p, &mut samples[none..n], out)
-}
-
-fn fill(p: Panel, samples: &mut [f32], out: &mut [u8]) -> Panel
-    ensures { λ r. ⌜ r .set ≡ fill (p .set) (length (now (samples .entry))) .set ⌝ }
-    ensures { λ r. ⌜ (p .bits ≡ false → pageOf (now (out .exit)) (r .at) ≡ addOf (pageOf (now (out .entry)) (p .at)) (reportLine (filledShown (fill (p .set) (length (now (samples .entry)))) .report))) ⌝ }
-{
-    blank(samples);
-    let s = shown::filled(p.set, samples);
+    let s = shown::after(p.set, call, &mut outbox, samples);
     let set = s.set;
-    let line = s.report;
-    let first = report::put_report(out, p.at, line);
-    if p.bits {
-        let second = page::put_fill(out, first, set, samples);
-        return Panel {
-            set,
-            at: second,
-            ..p
-        };
-    }
+    let first = shown::put_line(out, p.at, s);
+    let second = put_second(p.bits, out, first, call, s, &outbox, samples);
     Panel {
         set,
-        at: first,
+        at: second,
         ..p
     }
 }
 
-// A value that no call writes shows which samples a refused fill leaves alone.
-fn blank(samples: &mut [f32]) {
-    let mut i: usize = 0;
-    while i < samples.len() {
-        samples[i] = 1.23;
-        i += 1;
+fn put_second(
+    bits: bool,
+    out: &mut [u8],
+    at: usize,
+    call: Call,
+    shown: Shown,
+    outbox: &[u8],
+    samples: &[f32],
+) -> usize
+    ensures { λ r. ⌜ (bits ≡ false → pageOf (now (out .exit)) r ≡ pageOf (now (out .entry)) at) ⌝ }
+{
+    if bits & shown.prints {
+        return page::put_bits(out, at, call, shown, outbox, samples);
     }
+    at
 }

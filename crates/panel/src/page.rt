@@ -1,18 +1,21 @@
 // `tap`'s second line, written on a page that is a buffer.
+use crate::shown::Shown;
+use console::lines::Call;
 use set::Set;
 
-// The ring and the bytes sent.
-pub fn put_bits(out: &mut [u8], at: usize, set: Set, sent: &[u8]) -> usize {
+// The ring and the bytes sent, and after a fill the samples.
+pub fn put_bits(
+    out: &mut [u8],
+    at: usize,
+    call: Call,
+    shown: Shown,
+    outbox: &[u8],
+    samples: &[f32],
+) -> usize {
+    let set = shown.set;
     let mut k = put_ring(out, at, set);
-    k = put_sent(out, k, sent);
-    text::put_byte(out, k, b'\n')
-}
-
-// After a fill, the samples too.
-pub fn put_fill(out: &mut [u8], at: usize, set: Set, samples: &[f32]) -> usize {
-    let mut k = put_ring(out, at, set);
-    k = put_sent(out, k, b"");
-    k = put_samples(out, k, samples);
+    k = put_sent(out, k, outbox, shown.sent);
+    k = put_filled(out, k, call, samples);
     text::put_byte(out, k, b'\n')
 }
 
@@ -23,13 +26,17 @@ fn put_ring(out: &mut [u8], at: usize, set: Set) -> usize {
     text::put_decimal(out, k, ring as u64)
 }
 
-// The bytes sent, in hexadecimal.
-fn put_sent(out: &mut [u8], at: usize, sent: &[u8]) -> usize {
+// The outbox's first `sent` bytes, in hexadecimal.
+fn put_sent(out: &mut [u8], at: usize, outbox: &[u8], sent: usize) -> usize {
+    let from: usize = 0;
     let k = text::put(out, at, b" sent=");
-    if sent.len() == 0 {
+    if sent == 0 {
         return text::put_byte(out, k, b'-');
     }
-    put_bytes(out, k, sent)
+    if sent > outbox.len() {
+        return k;
+    }
+    put_bytes(out, k, &outbox[from..sent])
 }
 
 fn put_bytes(out: &mut [u8], at: usize, bytes: &[u8]) -> usize {
@@ -42,15 +49,25 @@ fn put_bytes(out: &mut [u8], at: usize, bytes: &[u8]) -> usize {
     k
 }
 
-// The patterns of up to 8 samples, or a hash of more.
-fn put_samples(out: &mut [u8], at: usize, samples: &[f32]) -> usize {
-    let n = samples.len();
+fn put_filled(out: &mut [u8], at: usize, call: Call, samples: &[f32]) -> usize {
+    if let Call::Fill(n) = call {
+        return put_samples(out, at, samples, n);
+    }
+    at
+}
+
+// The patterns of the first `n` samples up to 8, or a hash of more.
+fn put_samples(out: &mut [u8], at: usize, samples: &[f32], n: usize) -> usize {
+    let from: usize = 0;
     let mut k = text::put(out, at, b" n=");
     k = text::put_decimal(out, k, n as u64);
-    if n > 8 {
-        return put_hash(out, k, samples);
+    if n > samples.len() {
+        return k;
     }
-    put_patterns(out, k, samples)
+    if n > 8 {
+        return put_hash(out, k, &samples[from..n]);
+    }
+    put_patterns(out, k, &samples[from..n])
 }
 
 fn put_hash(out: &mut [u8], at: usize, samples: &[f32]) -> usize {

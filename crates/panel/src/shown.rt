@@ -1,30 +1,73 @@
-// The set's calls, each with what is printed of its answer.
+// A line's call on the set, with what is printed of its answer.
+use console::lines::Call;
 use reply::Reply;
 use report::Report;
-use set::Refusal;
 use set::Set;
 ghost use mathlib.Core.Path.{_≡_};
+ghost use lib.Dec.{leb};
 ghost use lib.ListN.{length};
+ghost use Rattle.text.specs.Text.{pageOf, addOf};
 ghost use Rattle.set.specs.Set.{made, typed, lapsed, forced, fill};
-ghost use Rattle.panel.specs.Wall.{shownOf, madeShown, typedShown, lapsedShown, forcedShown, filledShown};
+ghost use Rattle.panel.specs.Wall.{shownOf, nothingShown, madeShown, typedShown, lapsedShown, forcedShown, filledShown, ifRoom, shownAfter, lineOf};
 
 pub struct Shown {
     pub set: Set,
     pub report: Report,
     // how many bytes of the outbox were filled
     pub sent: usize,
+    // other lines than calls print nothing
+    pub prints: bool,
 }
 
-pub fn made(rate: u32) -> Shown
+pub fn after(set: Set, call: Call, outbox: &mut [u8], samples: &mut [f32]) -> Shown
+    ensures { λ r. ⌜ r ≡ shownAfter (length (now (outbox .entry))) (length (now (samples .entry))) set call ⌝ }
+{
+    match call {
+        Call::Rate(rate) => made(rate),
+        Call::Typed {
+            byte,
+            carrier,
+            outbox: n,
+        } => typed(set, byte, carrier, n, outbox),
+        Call::Lapse { ns, carrier } => lapsed(set, ns, carrier),
+        Call::Fill(n) => filled(set, n, samples),
+        Call::ForcedData => forced(set),
+        Call::Other => nothing(set),
+    }
+}
+
+// Writes the line, if there is one.
+pub fn put_line(out: &mut [u8], at: usize, shown: Shown) -> usize
+    ensures { λ r. ⌜ pageOf (now (out .exit)) r ≡ addOf (pageOf (now (out .entry)) at) (lineOf shown) ⌝ }
+{
+    let report = shown.report;
+    if shown.prints {
+        return report::put_report(out, at, report);
+    }
+    at
+}
+
+fn made(rate: u32) -> Shown
     ensures { λ r. ⌜ r ≡ madeShown (made rate) ⌝ }
 {
     let a = Set::new(rate);
     let set = a.set;
     let refusal = a.refusal;
-    show(set, refusal, Reply::None, 0)
+    show(set, refusal.number(), Reply::None, 0, true)
 }
 
-pub fn typed(set: Set, byte: u8, carrier: bool, outbox: &mut [u8]) -> Shown
+// Into the outbox's first `n` bytes.
+fn typed(set: Set, byte: u8, carrier: bool, n: usize, outbox: &mut [u8]) -> Shown
+    ensures { λ r. ⌜ r ≡ ifRoom (leb n (length (now (outbox .entry)))) set (typedShown (typed set byte carrier n)) ⌝ }
+{
+    let from: usize = 0;
+    if n > outbox.len() {
+        return nothing(set);
+    }
+    feed(set, byte, carrier, &mut outbox[from..n])
+}
+
+fn feed(set: Set, byte: u8, carrier: bool, outbox: &mut [u8]) -> Shown
     ensures { λ r. ⌜ r ≡ typedShown (typed set byte carrier (length (now (outbox .entry)))) ⌝ }
 {
     let a = set.feed(byte, carrier, outbox);
@@ -32,43 +75,70 @@ pub fn typed(set: Set, byte: u8, carrier: bool, outbox: &mut [u8]) -> Shown
     let refusal = a.refusal;
     let reply = a.reply;
     let sent = a.sent;
-    show(next, refusal, reply, sent)
+    show(next, refusal.number(), reply, sent, true)
 }
 
-pub fn lapsed(set: Set, ns: u64, carrier: bool) -> Shown
+fn lapsed(set: Set, ns: u64, carrier: bool) -> Shown
     ensures { λ r. ⌜ r ≡ lapsedShown (lapsed set ns carrier) ⌝ }
 {
     let a = set.advance_time(ns, carrier);
     let next = a.set;
     let refusal = a.refusal;
     let reply = a.reply;
-    show(next, refusal, reply, 0)
+    show(next, refusal.number(), reply, 0, true)
 }
 
-pub fn forced(set: Set) -> Shown
+fn forced(set: Set) -> Shown
     ensures { λ r. ⌜ r ≡ forcedShown (forced set) ⌝ }
 {
     let a = set.force_data_mode();
     let next = a.set;
     let refusal = a.refusal;
-    show(next, refusal, Reply::None, 0)
+    show(next, refusal.number(), Reply::None, 0, true)
 }
 
-pub fn filled(set: Set, samples: &mut [f32]) -> Shown
+// The first `n` samples.
+fn filled(set: Set, n: usize, samples: &mut [f32]) -> Shown
+    ensures { λ r. ⌜ r ≡ ifRoom (leb n (length (now (samples .entry)))) set (filledShown (fill set n)) ⌝ }
+{
+    let from: usize = 0;
+    if n > samples.len() {
+        return nothing(set);
+    }
+    fill(set, &mut samples[from..n])
+}
+
+fn fill(set: Set, samples: &mut [f32]) -> Shown
     ensures { λ r. ⌜ r ≡ filledShown (fill set (length (now (samples .entry)))) ⌝ }
 {
+    blank(samples);
     let a = set.process_out(samples);
     let next = a.set;
     let refusal = a.refusal;
-    show(next, refusal, Reply::None, 0)
+    show(next, refusal.number(), Reply::None, 0, true)
 }
 
-fn show(set: Set, refusal: Refusal, reply: Reply, sent: usize) -> Shown
-    ensures { λ r. ⌜ r ≡ shownOf set refusal reply sent ⌝ }
+// A value that no call writes shows which samples a refused fill leaves alone.
+fn blank(samples: &mut [f32]) {
+    let mut i: usize = 0;
+    while i < samples.len() {
+        samples[i] = 1.23;
+        i += 1;
+    }
+}
+
+fn nothing(set: Set) -> Shown
+    ensures { λ r. ⌜ r ≡ nothingShown set ⌝ }
+{
+    show(set, 0, Reply::None, 0, false)
+}
+
+fn show(set: Set, refusal: u8, reply: Reply, sent: usize, prints: bool) -> Shown
+    ensures { λ r. ⌜ r ≡ shownOf set refusal reply sent prints ⌝ }
 {
     let state = set.state();
     let report = Report {
-        refusal: refusal.number(),
+        refusal,
         in_command_mode: set.in_command_mode(),
         state: state.number(),
         stage: set.stage(),
@@ -76,5 +146,10 @@ fn show(set: Set, refusal: Refusal, reply: Reply, sent: usize) -> Shown
         first: reply.first(),
         second: reply.second(),
     };
-    Shown { set, report, sent }
+    Shown {
+        set,
+        report,
+        sent,
+        prints,
+    }
 }

@@ -1,4 +1,4 @@
--- `panel::read_all` is safe and ends: the measure is the number of turns that are left. Assumes nothing.
+-- `panel::read_all` is safe and ends: the measure is the number that is left. Assumes nothing.
 use mathlib.Core.Path.{_≡_}
 use borrow.Author.Needs.{needs}
 use lib.ListN.{length}
@@ -6,10 +6,10 @@ use Rattle.panel.proofs.read_all.Statement.{statement}
 use Rattle.panel.proofs.read_all.Tie as tie
 
 abbrev Inv-loop : tie.InvT-loop
-Inv-loop samples₀ out₀ s₀ turns₀ samples out s turns = (length samples ≡ length samples₀) × (length out ≡ length out₀)
+Inv-loop samples₀ out₀ s₀ left₀ samples out s left = (length samples ≡ length samples₀) × (length out ≡ length out₀)
 
 abbrev μ-loop : tie.MeasureT-loop
-μ-loop samples₀ out₀ s₀ turns₀ samples out s turns = turns
+μ-loop samples₀ out₀ s₀ left₀ samples out s left = left
 
 loop-holds : tie.Need-loop-holds Inv-loop μ-loop
 loop-holds c = search needs
@@ -17,8 +17,8 @@ loop-holds c = search needs
 read-some-requires : tie.Need-read-some-requires Inv-loop μ-loop
 read-some-requires c κs = search needs
 
-sub-turns : tie.Need-sub-turns Inv-loop μ-loop
-sub-turns c = search needs
+sub-left : tie.Need-sub-left Inv-loop μ-loop
+sub-left c = search needs
 
 loop-less : tie.Need-loop-less Inv-loop μ-loop
 loop-less c = search needs
@@ -52,7 +52,7 @@ read-all-spec =
     μ-loop
     loop-holds
     read-some-requires
-    sub-turns
+    sub-left
     loop-less
     loop-again
     same-length

@@ -1,11 +1,11 @@
--- `panel::blank` is safe and ends: the measure is what is left of the samples. Assumes nothing.
+-- `shown::blank` is safe and ends: the measure is what is left of the samples. Assumes nothing.
 use Prim.Native.Nat.{_≤_, _-_}
 use mathlib.Core.Path.{_≡_}
 use native.Mathlib.Omega.{arith}
 use borrow.Author.Needs.{needs}
 use lib.ListN.{length, length-set}
-use Rattle.panel.proofs.blank.Statement.{statement}
-use Rattle.panel.proofs.blank.Tie as tie
+use Rattle.panel.proofs.shown.blank.Statement.{statement}
+use Rattle.panel.proofs.shown.blank.Tie as tie
 
 abbrev Inv-loop : tie.InvT-loop
 Inv-loop samples₀ i₀ samples i = (i ≤ length samples) × (length samples ≡ length samples₀)

@@ -1,19 +1,55 @@
--- `shown::filled` meets its contract: the call's answer, shown. Assumes nothing.
+-- `shown::filled` meets its contract: the call is lent the front that the line names (`front-lent`). Assumes nothing.
+use Prim.Native.Nat.{ℕ}
+use mathlib.Core.Path.{_∙_}
+use denote.Ref.{now}
+use Rattle.set.specs.Set.{fill}
+use Rattle.panel.specs.Wall.{filledShown}
+use Rattle.panel.proofs.Room.{no-room, front-lent}
 use borrow.Author.Needs.{needs}
 use Rattle.panel.proofs.shown.filled.Statement.{statement}
 use Rattle.panel.proofs.shown.filled.Tie as tie
 
-process-out-requires : tie.Need-process-out-requires
-process-out-requires c κs = search needs
+nothing-requires : tie.Need-nothing-requires
+nothing-requires c κs = search needs
 
-show-requires : tie.Need-show-requires
-show-requires c κs = search needs
+returns : tie.Need-returns
+returns c =
+    let a = c .before .before .before .args in
+    c .nothing .ensures ∙ no-room (a .set) (λ (k : ℕ). filledShown (fill (a .set) k)) (a .n) (now (a .samples)) (c .before .if1 .taken)
+
+mul-fill : tie.Need-mul-fill
+mul-fill c = search needs
+
+sub-fill : tie.Need-sub-fill
+sub-fill c = search needs
+
+part-fill-start : tie.Need-part-fill-start
+part-fill-start c = search needs
+
+part-fill-end : tie.Need-part-fill-end
+part-fill-end c = search needs
+
+fill-requires : tie.Need-fill-requires
+fill-requires c κs = search needs
 
 same-length : tie.Need-same-length
 same-length c = search needs
 
-returns : tie.Need-returns
-returns c = rw (c .show .ensures, c .before .before .before .before .process-out .ensures .0)
+returns-2 : tie.Need-returns-2
+returns-2 c =
+    let a = c .before .before .before .before .before .before .args in
+    c .before .before .fill .ensures ∙ front-lent (a .set) (λ (k : ℕ). filledShown (fill (a .set) k)) (a .n) (now (a .samples)) (c .before .before .before .before .if1 .left)
 
 pub filled-spec : {M : Type 1} → statement M
-filled-spec = tie.close (tie.spec process-out-requires show-requires same-length returns)
+filled-spec =
+    tie.close
+    (tie.spec
+    nothing-requires
+    returns
+    mul-fill
+    sub-fill
+    part-fill-start
+    part-fill-end
+    fill-requires
+    same-length
+    returns-2)

@@ -1,0 +1,89 @@
+-- `shown::after` meets its contract: line by line of 01's list. Assumes nothing.
+use borrow.Author.Needs.{needs}
+use Rattle.panel.proofs.shown.after.Statement.{statement}
+use Rattle.panel.proofs.shown.after.Tie as tie
+
+enum-known-call : tie.Need-enum-known-call
+enum-known-call c = search needs
+
+made-requires : tie.Need-made-requires
+made-requires c κs = search needs
+
+enum-known-call-2 : tie.Need-enum-known-call-2
+enum-known-call-2 c = search needs
+
+typed-requires : tie.Need-typed-requires
+typed-requires c κs = search needs
+
+enum-known-call-3 : tie.Need-enum-known-call-3
+enum-known-call-3 c = search needs
+
+lapsed-requires : tie.Need-lapsed-requires
+lapsed-requires c κs = search needs
+
+enum-known-call-4 : tie.Need-enum-known-call-4
+enum-known-call-4 c = search needs
+
+filled-requires : tie.Need-filled-requires
+filled-requires c κs = search needs
+
+enum-told : tie.Need-enum-told
+enum-told c = search needs
+
+forced-requires : tie.Need-forced-requires
+forced-requires c κs = search needs
+
+enum-told-2 : tie.Need-enum-told-2
+enum-told-2 c = search needs
+
+nothing-requires : tie.Need-nothing-requires
+nothing-requires c κs = search needs
+
+returns : tie.Need-returns
+returns c = rw (c .before .before .call .given .1) (c .made .ensures)
+
+same-length : tie.Need-same-length
+same-length c = search needs
+
+returns-2 : tie.Need-returns-2
+returns-2 c = rw (c .before .before .before .before .before .call2 .given .1) (c .before .before .typed .ensures)
+
+returns-3 : tie.Need-returns-3
+returns-3 c = rw (c .before .before .call3 .given .1) (c .lapsed .ensures)
+
+same-length-2 : tie.Need-same-length-2
+same-length-2 c = search needs
+
+returns-4 : tie.Need-returns-4
+returns-4 c = rw (c .before .before .before .before .before .call4 .given .1) (c .before .before .filled .ensures)
+
+returns-5 : tie.Need-returns-5
+returns-5 c = rw (c .before .enum-told .given .1) (c .forced .ensures)
+
+returns-6 : tie.Need-returns-6
+returns-6 c = rw (c .before .enum-told2 .given .1) (c .nothing .ensures)
+
+pub after-spec : {M : Type 1} → statement M
+after-spec =
+    tie.close
+    (tie.spec
+    enum-known-call
+    made-requires
+    enum-known-call-2
+    typed-requires
+    enum-known-call-3
+    lapsed-requires
+    enum-known-call-4
+    filled-requires
+    enum-told
+    forced-requires
+    enum-told-2
+    nothing-requires
+    returns
+    same-length
+    returns-2
+    returns-3
+    same-length-2
+    returns-4
+    returns-5
+    returns-6)
