@@ -1,4 +1,4 @@
-// The answers of `wall`, each followed by a line of what the set rings, sends and sounds. With the
+// The answers of `wall`, each followed by a line of what the set rings, sends and plays. With the
 // argument --ext it takes longer fills, and T lines that give the outbox's length.
 use libc::STDERR_FILENO;
 
