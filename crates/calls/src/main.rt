@@ -1,0 +1,61 @@
+// The calls that no other program makes: the cue, the writer of replies, the digits' reader, and every
+// call on sets that are not sound. Buffers are dots, or samples of 1.23, before each call, and are printed
+// whole after it.
+mod sets;
+mod tried;
+mod unsound;
+
+fn main() {
+    replies();
+    cues();
+    declined();
+    unsound::processors();
+    unsound::sessions();
+    unsound::oscillators();
+    unsound::symbols();
+    unsound::counts();
+    unsound::ends();
+}
+
+// Each code in a buffer with room for all, then one byte short.
+fn replies() {
+    tried::reply(0, 28);
+    tried::reply(1, 28);
+    tried::reply(1, 1);
+    tried::reply(2, 28);
+    tried::reply(2, 10);
+    tried::reply(3, 28);
+    tried::reply(3, 9);
+    tried::reply(4, 28);
+    tried::reply(4, 4);
+    tried::reply(5, 26);
+    tried::reply(5, 25);
+    tried::reply(6, 28);
+    tried::reply(7, 28);
+    tried::reply(8, 28);
+}
+
+fn cues() {
+    let set = sets::dialled(8000);
+    tried::cue(b"first digit", set, 0);
+    tried::cue(b"second digit", set, 1);
+    tried::cue(b"no third digit", set, 2);
+    tried::cue(b"no digit in Idle", sets::fresh(8000), 0);
+    tried::cue(b"at 192000", sets::dialled(192000), 1);
+    tried::digits(b"dialled 12", set);
+    tried::digits(b"fresh", sets::fresh(8000));
+}
+
+// The calls of sound sets that are declined.
+fn declined() {
+    tried::made(7999);
+    tried::made(8000);
+    tried::made(192001);
+    tried::typed(b"outbox of 3", sets::fresh(8000), b'A', 3);
+    tried::typed(b"outbox of 4", sets::fresh(8000), b'A', 4);
+    tried::typed(b"four pluses", sets::pluses(3), b'+', 8);
+    tried::typed(b"line of 80", sets::line(80), b'1', 8);
+    tried::typed(b"line of 79", sets::line(79), b'1', 8);
+    tried::fill_long(sets::dialled(8000));
+    tried::calls(b"Connected", sets::connected());
+}

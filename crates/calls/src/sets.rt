@@ -1,0 +1,129 @@
+// The sets that are tried, made of a dialled one by their public fields.
+use at::AtProcessor;
+use command::Line;
+use fsk::FskChannel;
+use keys::Digits;
+use nco::Nco;
+use session::Session;
+use session::SessionState;
+use set::Set;
+use stage::StageState;
+
+pub fn fresh(rate: u32) -> Set {
+    let made = Set::new(rate);
+    made.set
+}
+
+// A set that has dialled 12.
+pub fn dialled(rate: u32) -> Set {
+    let set = fresh(rate);
+    let session = Session::dial(b"12", rate);
+    Set { session, ..set }
+}
+
+fn with_processor(processor: AtProcessor) -> Set {
+    let set = dialled(8000);
+    Set { processor, ..set }
+}
+
+fn with_session(session: Session) -> Set {
+    let set = dialled(8000);
+    Set { session, ..set }
+}
+
+fn session() -> Session {
+    let set = dialled(8000);
+    set.session
+}
+
+pub fn rate(rate: u32) -> Set {
+    let set = dialled(8000);
+    Set { rate, ..set }
+}
+
+pub fn line(len: usize) -> Set {
+    let processor = AtProcessor::new();
+    let cmd_buf = Line {
+        bytes: [b'1'; 80],
+        len,
+    };
+    with_processor(AtProcessor {
+        cmd_buf,
+        ..processor
+    })
+}
+
+// In data mode.
+pub fn pluses(plus_count: u8) -> Set {
+    let processor = AtProcessor::new();
+    with_processor(AtProcessor {
+        in_command_mode: false,
+        plus_count,
+        ..processor
+    })
+}
+
+pub fn down_for(carrier_down_for: u64) -> Set {
+    let processor = AtProcessor::new();
+    with_processor(AtProcessor {
+        carrier_down_for,
+        ..processor
+    })
+}
+
+pub fn connected() -> Set {
+    let s = session();
+    with_session(Session {
+        state: SessionState::Connected,
+        ..s
+    })
+}
+
+pub fn m(m: u32) -> Set {
+    let s = session();
+    with_session(Session { m, ..s })
+}
+
+pub fn shown(shown: u8) -> Set {
+    let s = session();
+    with_session(Session { shown, ..s })
+}
+
+pub fn digits(key: u8, len: usize) -> Set {
+    let s = session();
+    let digits = Digits {
+        keys: [key; 76],
+        len,
+    };
+    with_session(Session { digits, ..s })
+}
+
+pub fn stage(stage: StageState) -> Set {
+    let s = session();
+    with_session(Session { stage, ..s })
+}
+
+pub fn oscillator(phase: f64, step: f64, rate: f64) -> Set {
+    let a = Nco { phase, step, rate };
+    let b = tone();
+    stage(StageState::DialTone { a, b, n: 0 })
+}
+
+pub fn tone() -> Nco {
+    Nco::new(440.0, 8000.0)
+}
+
+pub fn channel(done: u32, phase: f64, step: f64) -> FskChannel {
+    let nco = tone();
+    FskChannel {
+        nco,
+        done,
+        phase,
+        step,
+    }
+}
+
+// A channel at the beginning of a bit.
+pub fn sent(done: u32) -> FskChannel {
+    channel(done, 0.0, schedule::symbol_step(8000))
+}

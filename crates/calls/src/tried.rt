@@ -1,0 +1,171 @@
+// A line of output for each call, or for each set: what was answered, and the buffer after it.
+use set::Set;
+ghost use Prim.Native.Nat.{_≤_};
+
+// All calls on a set.
+pub fn calls(name: &[u8], set: Set) {
+    let mut page = [0u8; 512];
+    let mut k = text::put(&mut page, 0, name);
+    k = put_typed(&mut page, k, set, b'1', 8);
+    k = put_time(&mut page, k, set);
+    k = put_forced(&mut page, k, set);
+    k = put_filled(&mut page, k, set);
+    k = put_readers(&mut page, k, set);
+    k = put_cue(&mut page, k, set, 0);
+    end(&mut page, k);
+}
+
+// The buffer's first `n` bytes are lent.
+pub fn reply(code: u8, n: usize)
+    requires { ⌜ n ≤ 28 ⌝ }
+{
+    let mut page = [0u8; 128];
+    let mut buffer = [b'.'; 28];
+    let from: usize = 0;
+    let length = reply::write_reply(code, &mut buffer[from..n]);
+    let mut k = put_number(&mut page, 0, b"reply ", code as u64);
+    k = put_number(&mut page, k, b" room ", n as u64);
+    k = put_number(&mut page, k, b" length ", length as u64);
+    k = put_buffer(&mut page, k, &buffer);
+    end(&mut page, k);
+}
+
+pub fn cue(name: &[u8], set: Set, position: u32) {
+    let mut page = [0u8; 128];
+    let mut k = text::put(&mut page, 0, name);
+    k = put_cue(&mut page, k, set, position);
+    end(&mut page, k);
+}
+
+pub fn digits(name: &[u8], set: Set) {
+    let mut page = [0u8; 128];
+    let digits = set.digits();
+    let keys = digits.keys;
+    let mut k = text::put(&mut page, 0, name);
+    k = put_number(&mut page, k, b" digits ", digits.len as u64);
+    k = put_number(&mut page, k, b" key ", wide(keys[0]));
+    k = put_number(&mut page, k, b" key ", wide(keys[1]));
+    k = put_number(&mut page, k, b" key ", wide(keys[2]));
+    end(&mut page, k);
+}
+
+pub fn made(rate: u32) {
+    let mut page = [0u8; 128];
+    let made = Set::new(rate);
+    let set = made.set;
+    let refusal = made.refusal;
+    let mut k = put_number(&mut page, 0, b"rate ", rate as u64);
+    k = put_number(&mut page, k, b" made ", refusal.number() as u64);
+    k = put_number(&mut page, k, b" at ", set.rate() as u64);
+    end(&mut page, k);
+}
+
+pub fn typed(name: &[u8], set: Set, byte: u8, n: usize)
+    requires { ⌜ n ≤ 8 ⌝ }
+{
+    let mut page = [0u8; 128];
+    let mut k = text::put(&mut page, 0, name);
+    k = put_typed(&mut page, k, set, byte, n);
+    end(&mut page, k);
+}
+
+// A fill of 65,537 samples: the hash is that of the buffer as it was.
+pub fn fill_long(set: Set) {
+    let mut page = [0u8; 128];
+    let mut samples = [1.23f32; 65537];
+    let before = samples::fnv::hash_samples(samples::fnv::OFFSET, &samples);
+    let answer = set.process_out(&mut samples);
+    let refusal = answer.refusal;
+    let after = samples::fnv::hash_samples(samples::fnv::OFFSET, &samples);
+    let mut k = put_number(&mut page, 0, b"fill of 65537 ", refusal.number() as u64);
+    k = put_bits(&mut page, k, before, 16);
+    k = put_bits(&mut page, k, after, 16);
+    end(&mut page, k);
+}
+
+fn put_typed(page: &mut [u8], at: usize, set: Set, byte: u8, n: usize) -> usize
+    requires { ⌜ n ≤ 8 ⌝ }
+{
+    let mut outbox = [b'.'; 8];
+    let from: usize = 0;
+    let answer = set.feed(byte, false, &mut outbox[from..n]);
+    let refusal = answer.refusal;
+    let reply = answer.reply;
+    let mut k = put_number(page, at, b" typed ", refusal.number() as u64);
+    k = put_number(page, k, b" codes ", reply.first() as u64);
+    k = put_number(page, k, b" ", reply.second() as u64);
+    k = put_number(page, k, b" sent ", answer.sent as u64);
+    put_outbox(page, k, &outbox)
+}
+
+fn put_time(page: &mut [u8], at: usize, set: Set) -> usize {
+    let answer = set.advance_time(1, false);
+    let refusal = answer.refusal;
+    put_number(page, at, b" time ", refusal.number() as u64)
+}
+
+fn put_forced(page: &mut [u8], at: usize, set: Set) -> usize {
+    let answer = set.force_data_mode();
+    let refusal = answer.refusal;
+    put_number(page, at, b" forced ", refusal.number() as u64)
+}
+
+fn put_filled(page: &mut [u8], at: usize, set: Set) -> usize {
+    let mut samples = [1.23f32; 2];
+    let answer = set.process_out(&mut samples);
+    let refusal = answer.refusal;
+    let mut k = put_number(page, at, b" fill ", refusal.number() as u64);
+    k = put_bits(page, k, samples::bits(samples[0]) as u64, 8);
+    put_bits(page, k, samples::bits(samples[1]) as u64, 8)
+}
+
+// The readers that work their answer out.
+fn put_readers(page: &mut [u8], at: usize, set: Set) -> usize {
+    let rung = set.ring_number();
+    let ring_refusal = rung.refusal;
+    let shown = edges::icon(set);
+    let icon_refusal = shown.refusal;
+    let mut k = put_number(page, at, b" ring ", ring_refusal.number() as u64);
+    k = put_number(page, k, b" ", rung.ring as u64);
+    k = put_number(page, k, b" icon ", icon_refusal.number() as u64);
+    put_number(page, k, b" ", shown.icon as u64)
+}
+
+fn put_cue(page: &mut [u8], at: usize, set: Set, position: u32) -> usize {
+    let cued = cue::cue(set, position);
+    let refusal = cued.refusal;
+    let k = put_number(page, at, b" cue ", refusal.number() as u64);
+    put_number(page, k, b" ", cued.sample)
+}
+
+fn put_number(page: &mut [u8], at: usize, label: &[u8], number: u64) -> usize {
+    let k = text::put(page, at, label);
+    text::put_decimal(page, k, number)
+}
+
+fn put_buffer(page: &mut [u8], at: usize, buffer: &[u8; 28]) -> usize {
+    put_word(page, at, buffer)
+}
+
+fn put_outbox(page: &mut [u8], at: usize, outbox: &[u8; 8]) -> usize {
+    put_word(page, at, outbox)
+}
+
+fn put_word(page: &mut [u8], at: usize, word: &[u8]) -> usize {
+    let k = text::put_byte(page, at, b' ');
+    text::put(page, k, word)
+}
+
+fn put_bits(page: &mut [u8], at: usize, bits: u64, digits: usize) -> usize {
+    let k = text::put_byte(page, at, b' ');
+    text::put_hex(page, k, bits, digits)
+}
+
+fn wide(byte: u8) -> u64 {
+    byte as u64
+}
+
+fn end(page: &mut [u8], at: usize) {
+    let k = text::put_byte(page, at, b'\n');
+    console::stream::flush(page, k);
+}
