@@ -19,9 +19,8 @@ use Rattle.stage.specs.declared.StageState.the-variants as at
 use Rattle.stage.specs.Stage.{stageOf, stageNumber}
 use Rattle.overture.specs.Iteration.{fresh, after, samples, shownAfter}
 use Rattle.overture.proofs.Iteration.{after-add}
-use Rattle.soundness.proofs.Next.{sound-apart}
-use Rattle.soundness.proofs.Held.{enter-held}
-use Rattle.soundness.proofs.Enter.{enter-sound}
+use Rattle.soundness.proofs.States.{sound-parts}
+use Rattle.soundness.proofs.First.{first-sound}
 use Rattle.at.specs.declared.AtProcessor.{AtProcessor}
 use Rattle.at.specs.declared.Control.{Control}
 use Rattle.at.specs.declared.Control.the-variants.{Nothing, Dial, Answer, Hangup}
@@ -244,10 +243,10 @@ module _ (r : ℕ) (p : AtProcessor) (digits : List ℕ) (count shown : ℕ) (s 
     unfolding connects
     filled-sound x st short g =
         let q = ranges s (inv .sound) in
-        let parts = sound-apart _ _ _ (q .state) in
+        let parts = sound-parts _ _ _ (q .state) in
         in-ranges _ (record {
           digits = q .digits;
-          state = rw (g, held-digits, f .rate) (after-sound digits r (count + b) (fresh digits r) (enter-held _ digits r) (enter-sound _ digits r (rw (f .rate) at (parts .rate)) (rw held-digits at (parts .keys))));
+          state = rw (g, held-digits, f .rate) (after-sound digits r (count + b) (fresh digits r) (first-sound _ digits r (rw (f .rate) at (parts .rate)) (rw held-digits at (parts .keys))) .1);
           processor = q .processor;
           count = within (s .session .m) (f .count) (inv .room refl) short;
           shown = shown-most (eqb (stageNumber x) 10) x refl;

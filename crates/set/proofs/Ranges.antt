@@ -7,7 +7,7 @@ use borrow.Author.Tests.{leb-true, le-leb}
 use Rattle.at.specs.Processor as processor
 use Rattle.soundness.specs.Sound.{soundState}
 use Rattle.soundness.proofs.Limits.{rate-low, rate-high}
-use Rattle.soundness.proofs.Next.{sound-apart}
+use Rattle.soundness.proofs.States.{sound-parts}
 use Rattle.session.specs.Session.{digitsHeld}
 use Rattle.set.specs.declared.Set.{Set}
 use Rattle.set.specs.Sound.{sound}
@@ -44,4 +44,4 @@ module _ (s : Set) (h : sound s ≡ true) where
   sound-count = ranges s h .count
 
   pub sound-rate : (8000 ≤ s .rate) × (s .rate ≤ 192000)
-  sound-rate = let p = sound-apart _ _ _ (ranges s h .state) in (rate-low (s .rate) (p .rate), rate-high (s .rate) (p .rate))
+  sound-rate = let p = sound-parts _ _ _ (ranges s h .state) in (rate-low (s .rate) (p .rate), rate-high (s .rate) (p .rate))

@@ -14,9 +14,9 @@ use Rattle.stage.specs.declared.StageState.{StageState}
 use Rattle.stage.specs.Next.{stateNext}
 use Rattle.overture.specs.Iteration.{after}
 use Rattle.soundness.specs.Sound.{rateOk, digitsOk, stateOk, soundState}
-use Rattle.soundness.proofs.Held.{Held, next-held}
-use Rattle.soundness.proofs.Next.{sound-apart, next-sound}
-use Rattle.soundness.proofs.Enter.{enter-sound}
+use Rattle.soundness.proofs.States.{Sound, sound-parts}
+use Rattle.soundness.proofs.First.{first-sound}
+use Rattle.soundness.proofs.Next.{next-sound}
 use Rattle.at.specs.declared.AtProcessor.{AtProcessor}
 use Rattle.at.specs.declared.Control.{Control}
 use Rattle.at.specs.declared.Control.the-variants.{Nothing, Dial, Answer, Hangup}
@@ -32,10 +32,10 @@ use Rattle.set.specs.Set.{moved, typedIf, typed, lapsed, forced}
 use Rattle.set.proofs.Ranges.{ranges, in-ranges}
 
 -- however many samples a fill writes, the state of the stage stays sound
-pub after-sound : (digits : List ℕ) (r k : ℕ) (s : StageState) → Held s → soundState s digits r ≡ true → soundState (after k s digits r) digits r ≡ true
+pub after-sound : (digits : List ℕ) (r k : ℕ) (s : StageState) → Sound s digits r → Sound (after k s digits r) digits r
 unfolding after
-after-sound digits r zero s h e = e
-after-sound digits r (suc k) s h e = after-sound digits r k (stateNext s digits r) (next-held s digits r h) (next-sound s digits r h e)
+after-sound digits r zero s h = h
+after-sound digits r (suc k) s h = after-sound digits r k (stateNext s digits r) (next-sound s digits r h)
 
 -- a line has at most 76 bytes after ATDT, so no digit is lost
 pub few-typed : (p : AtProcessor) → processor.sound p ≡ true → (byte : ℕ) (carrier : Bool) (room : ℕ) → length (afterAtdt (typedByte p byte carrier room)) ≤ 76
@@ -47,7 +47,7 @@ dialled-ok line short = rw (le-leb _ _ (le-trans (digits-fewer line) short), all
 
 module _ (s : Set) (ok : sound s ≡ true) where
   rate-ok : rateOk (s .rate) ≡ true
-  rate-ok = sound-apart _ _ _ (ranges s ok .state) .rate
+  rate-ok = sound-parts _ _ _ (ranges s ok .state) .rate
 
   pub control-sound : (c : Control) (line : List ℕ) (p : AtProcessor) → length line ≤ 76 → processor.sound p ≡ true
       → sound (moved s p (controlled c (s .session) line (s .rate))) ≡ true
@@ -62,7 +62,7 @@ module _ (s : Set) (ok : sound s ≡ true) where
   control-sound Dial line p short good =
       in-ranges _ (record {
         digits = rw (digits-whole line short) (le-trans (digits-fewer line) short);
-        state = rw (digits-whole line short, padded-front (digitsOf line)) (enter-sound _ (digitsOf line) (s .rate) rate-ok (dialled-ok line short));
+        state = rw (digits-whole line short, padded-front (digitsOf line)) (first-sound _ (digitsOf line) (s .rate) rate-ok (dialled-ok line short) .1);
         processor = good;
         count = zero-le;
         shown = zero-le;

@@ -1,9 +1,8 @@
--- That a sound state begins every stage and is followed by another.
+-- That every stage begins with a sound state, and that a sound state is followed by another.
 pub mod Limits
-pub mod Parts
 pub mod Dialling
-pub mod Held
 pub mod Oscillators
-pub mod Channels
-pub mod Enter
+pub mod Modulators
+pub mod States
+pub mod First
 pub mod Next
