@@ -2,6 +2,7 @@
 use at::AtProcessor;
 use command::Line;
 use fsk::FskChannel;
+use fsk::Modulator;
 use keys::Digits;
 use nco::Nco;
 use session::Session;
@@ -115,12 +116,8 @@ pub fn tone() -> Nco {
 
 pub fn channel(done: u32, phase: f64, step: f64) -> FskChannel {
     let nco = tone();
-    FskChannel {
-        nco,
-        done,
-        phase,
-        step,
-    }
+    let modulator = Modulator { nco, phase, step };
+    FskChannel { modulator, done }
 }
 
 // A channel at the beginning of a bit.
