@@ -10,12 +10,12 @@ use Rattle.ascii.specs.Upper.{upper}
 use Rattle.reply.specs.declared.Code.the-variants.{NoCarrier, Error}
 use Rattle.reply.specs.declared.Reply.{Reply}
 use Rattle.reply.specs.declared.Reply.the-variants.{None, One}
-use Rattle.command.specs.Line.{pushed, uppercased}
+use Rattle.command.specs.Line.{emptyLine, pushed, uppercased}
 use Rattle.command.specs.Command.{begins, is, commandOf}
 use Rattle.at.specs.declared.AtProcessor.{AtProcessor}
 use Rattle.at.specs.declared.Control.the-variants.{Dial}
 use Rattle.at.specs.declared.Fed.{Fed}
-use Rattle.at.specs.Processor.{fresh, pluses, online, withCarrier, added}
+use Rattle.at.specs.Processor.{fresh, pluses, sound, online, withLine, withEscape, withCarrier, added}
 use Rattle.at.specs.Command.{executed}
 use Rattle.at.specs.Escape.{withheld, released, dataByte, escaped, waited}
 use Rattle.at.specs.Carrier.{polled, downFor}
@@ -89,3 +89,19 @@ downReply ns = lapse (withCarrier true 0 (online fresh)) ns false .reply
 pub down : (downReply 699_999_999 ≡ None) × (downReply 700_000_000 ≡ One NoCarrier)
 unfolding downReply
 down = (refl, refl)
+
+-- sound: line <= 80; pluses <= 3; down time < 700 ms
+abbrev lineOfLength : ℕ → AtProcessor
+lineOfLength n = withLine (record { bytes = emptyLine .bytes; len = n }) fresh
+
+pub sound-line : (sound (lineOfLength 80) ≡ true) × (sound (lineOfLength 81) ≡ false)
+unfolding sound
+sound-line = (refl, refl)
+
+pub sound-pluses : (sound (withEscape 3 0 fresh) ≡ true) × (sound (withEscape 4 0 fresh) ≡ false)
+unfolding sound
+sound-pluses = (refl, refl)
+
+pub sound-down : (sound (withCarrier true 699_999_999 fresh) ≡ true) × (sound (withCarrier true 700_000_000 fresh) ≡ false)
+unfolding sound
+sound-down = (refl, refl)

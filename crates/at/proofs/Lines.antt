@@ -1,17 +1,16 @@
 -- A byte that 01 does not decline joins the line, and a line that is ended has at most 80 bytes, 76 of them after ATDT.
 -- Assumes nothing.
-use Prim.Native.Nat.{ℕ, _≤_, _<_, zero-le}
+use Prim.Native.Nat.{ℕ, _≤_, _<_}
 use Prim.Native.Char.{code}
-use native.Mathlib.Numerals.{add-one}
 use native.Mathlib.Omega.{arith}
 use mathlib.Core.Path.{_≡_, refl}
 use mathlib.Core.List.{List, [], _∷_, _++_}
 use mathlib.Core.Bool.{Bool, true, false, _&&_}
-use lib.ListN.{length, length-take, length-drop}
-use lib.Seq.{take-suc-set}
+use lib.ListN.{length}
 use lib.Dec.{eqb}
-use borrow.Author.Tests.{eqb-false, lt-ltb}
-use Rattle.command.specs.Line.{typed, pushed, uppercased}
+use borrow.Author.Tests.{eqb-false, leb-true}
+use Rattle.command.specs.Line.{typed, soundLine, pushed}
+use Rattle.command.proofs.Pushed as line
 use Rattle.at.specs.declared.AtProcessor.{AtProcessor}
 use Rattle.at.specs.declared.Fed.{Fed}
 use Rattle.at.specs.Processor.{commandMode, lineOf, sound}
@@ -25,22 +24,19 @@ room-left n l false e f = let d : n ≡ 80 → ⊥ = eqb-false n 80 e in omega a
 
 pub joins : (p : AtProcessor) (byte : ℕ) → sound p ≡ true → length (lineOf p .bytes) ≡ 80 → commandMode p ≡ true → eqb byte (code "\n") ≡ false → eqb byte (code "\r") ≡ false → lineFull p byte ≡ false
     → typed (pushed (lineOf p) byte) ≡ typed (lineOf p) ++ (byte ∷ [])
-unfolding lineFull pushed
+unfolding lineFull
 joins p byte e long mode lf cr f =
     let g : (eqb (lineOf p .len) 80 && true) ≡ false = rw (mode, lf, cr) at f in
-    let l : lineOf p .len < 80 = room-left (lineOf p .len) (parts p e .line) _ refl g in
-    rw (lt-ltb _ _ l, add-one) (take-suc-set (lineOf p .bytes) (lineOf p .len) byte (omega arith))
+    line.joins (lineOf p) byte long (room-left (lineOf p .len) (leb-true _ _ (parts p e .line)) _ refl g)
 
-short : {p : AtProcessor} {byte : ℕ} {carrier : Bool} {room : ℕ} {f : Fed} {bytes : List ℕ} → lineOf p .len ≤ 80 → Typed p byte carrier room f bytes → f .line .len ≤ 80
-unfolding uppercased
-short l dropped = zero-le
-short l ends = l
-short l grows = zero-le
-short l (waits w) = zero-le
-short l (sends r) = zero-le
-short l (declined r) = zero-le
+sound-line : {p : AtProcessor} {byte : ℕ} {carrier : Bool} {room : ℕ} {f : Fed} {bytes : List ℕ} → soundLine (lineOf p) ≡ true → Typed p byte carrier room f bytes → soundLine (f .line) ≡ true
+sound-line l dropped = refl
+sound-line {p} l ends = rw (line.sound-uppercased (lineOf p)) l
+sound-line l grows = refl
+sound-line l (waits w) = refl
+sound-line l (sends r) = refl
+sound-line l (declined r) = refl
 
 pub few-after : (p : AtProcessor) (byte : ℕ) (carrier : Bool) (room : ℕ) → sound p ≡ true → length (afterAtdt (typedByte p byte carrier room)) ≤ 76
 few-after p byte carrier room e =
-    let l = short (parts p e .line) (typed-byte p byte carrier room) in
-    simp (length-drop, length-take) (omega arith)
+    line.few-after (typedByte p byte carrier room .line) (sound-line (parts p e .line) (typed-byte p byte carrier room))

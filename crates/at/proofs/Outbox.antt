@@ -61,11 +61,11 @@ module _ {p : AtProcessor} {byte : ℕ} {carrier : Bool} {room : ℕ} (held : pl
 
 -- a typed byte sends at most four
 pub at-most-four : (p : AtProcessor) (byte : ℕ) → sound p ≡ true → length (sent p byte) ≤ 4
-at-most-four p byte e = few (parts p e .held) (typed-byte p byte false 0)
+at-most-four p byte e = few (parts p e .ranges .held) (typed-byte p byte false 0)
 
 -- with an outbox that 01 does not decline, the answer counts them
 pub sent-count : (p : AtProcessor) (byte : ℕ) (carrier : Bool) (room : ℕ) → sound p ≡ true → 4 ≤ room → typedByte p byte carrier room .sent ≡ length (sent p byte)
-sent-count p byte carrier room e l = counted (parts p e .held) l (typed-byte p byte carrier room)
+sent-count p byte carrier room e l = counted (parts p e .ranges .held) l (typed-byte p byte carrier room)
 
 -- and they stand at its front, the later bytes as they were
 pub sent-first : (p : AtProcessor) (byte : ℕ) (was : List ℕ) → sound p ≡ true → 4 ≤ length was → put (sent p byte) was ≡ sent p byte ++ drop (length (sent p byte)) was

@@ -3,7 +3,7 @@ use Prim.Native.Nat.{ℕ, _+_, _-_, _^_, min}
 use mathlib.Core.Bool.{Bool, true, false, _&&_}
 use lib.Dec.{leb, ltb}
 use Rattle.command.specs.declared.Line.{Line}
-use Rattle.command.specs.Line.{emptyLine}
+use Rattle.command.specs.Line.{emptyLine, soundLine}
 use Rattle.at.specs.declared.AtProcessor.{AtProcessor}
 
 -- true in command mode, false in data mode
@@ -87,7 +87,7 @@ holdTime = 700_000_000
 
 -- line <= 80; pluses <= 3; down time < 700 ms
 unfoldable pub sound : AtProcessor → Bool
-sound p = leb (lineOf p .len) 80 && (leb (pluses p) 3 && ltb (downTime p) holdTime)
+sound p = soundLine (lineOf p) && (leb (pluses p) 3 && ltb (downTime p) holdTime)
 
 -- online: data mode, pluses and idle zero
 abbrev pub online : AtProcessor → AtProcessor

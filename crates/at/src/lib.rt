@@ -95,8 +95,8 @@ impl AtProcessor {
     pub fn sound(self) -> bool
         ensures { λ r. ⌜ r ≡ sound self ⌝ }
     {
-        (self.cmd_buf.len <= 80)
-            & ((self.plus_count <= 3) & (self.carrier_down_for < DCD_HOLD_TIME))
+        let line = self.cmd_buf;
+        line.sound() & ((self.plus_count <= 3) & (self.carrier_down_for < DCD_HOLD_TIME))
     }
 
     // Whether 01 declines the byte with number 4.

@@ -1,3 +1,4 @@
 -- Laws on lines.
 pub mod Mapped
 pub mod Begins
+pub mod Pushed

@@ -3,7 +3,7 @@ use Prim.Native.Nat.{ℕ, _+_}
 use mathlib.Core.List.{List, map}
 use mathlib.Core.Bool.{Bool, true, false}
 use lib.ListN.{take, set, replicate}
-use lib.Dec.{ltb}
+use lib.Dec.{leb, ltb}
 use Rattle.ascii.specs.Upper.{upper}
 use Rattle.command.specs.declared.Line.{Line}
 
@@ -13,6 +13,10 @@ emptyLine = record { bytes = replicate 80 0; len = 0 }
 -- the line's bytes
 abbrev pub typed : Line → List ℕ
 typed l = take (l .len) (l .bytes)
+
+-- sound: line <= 80
+abbrev pub soundLine : Line → Bool
+soundLine l = leb (l .len) 80
 
 -- one byte more; a full line stays, and the byte is one that 01 declines
 abbrev pub pushedIf : Bool → Line → ℕ → Line

@@ -3,7 +3,7 @@
 ghost use mathlib.Core.Path.{_≡_};
 ghost use Prim.Native.Nat.{_≤_, _<_};
 ghost use lib.ListN.{length};
-ghost use Rattle.command.specs.Line.{emptyLine, typed, pushed, uppercased};
+ghost use Rattle.command.specs.Line.{emptyLine, typed, soundLine, pushed, uppercased};
 ghost use Rattle.command.specs.Command as commands;
 ghost use Rattle.command.specs.Command.{begins, is, commandOf};
 
@@ -33,6 +33,13 @@ impl Line {
             bytes: [0; 80],
             len: 0,
         }
+    }
+
+    // The line's part of 01's "Sound".
+    pub fn sound(self) -> bool
+        ensures { λ r. ⌜ r ≡ soundLine self ⌝ }
+    {
+        self.len <= 80
     }
 
     // One byte more. A full line takes none; 01 declines that byte beforehand.
