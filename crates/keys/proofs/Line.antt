@@ -118,8 +118,8 @@ module _ (line : List ℕ) (i : ℕ) (keys : List ℕ) (len b : ℕ) (so-far : D
   unfolding keysOf
   with-key key = rw key at digits-more
 
-  pub key-kept : isKey b ≡ true → len < 76 → Dialled line (i + 1) (set keys len b) (len + 1)
-  key-kept key fits =
+  pub key-stored : isKey b ≡ true → len < 76 → Dialled line (i + 1) (set keys len b) (len + 1)
+  key-stored key fits =
       let l : length (take 76 (digitsOf (take i line))) < 76 = omega (arith, so-far .number) in
       record {
         within = omega arith;
@@ -127,8 +127,8 @@ module _ (line : List ℕ) (i : ℕ) (keys : List ℕ) (len b : ℕ) (so-far : D
         number = rw (with-key key, room (digitsOf (take i line)) b l) (simp length-append (omega (arith, so-far .number)));
       }
 
-  pub key-past : isKey b ≡ true → 76 ≤ len → Dialled line (i + 1) keys len
-  key-past key over =
+  pub key-over : isKey b ≡ true → 76 ≤ len → Dialled line (i + 1) keys len
+  key-over key over =
       let l : 76 ≤ length (take 76 (digitsOf (take i line))) = omega (arith, so-far .number) in
       record {
         within = omega arith;

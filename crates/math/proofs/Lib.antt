@@ -10,4 +10,4 @@ pub mod Wrapping
 pub mod Equal
 pub mod Units
 pub mod Constants
-pub mod Turns
+pub mod FullWave

@@ -62,7 +62,7 @@ phase-stays step phase hs hp ks kp =
 
 -- ---- oscillators
 -- phase and step are numbers of the format, in [0, TAU)
-pub record Turning (n : Nco) : Type 0 where
+pub record InRange (n : Nco) : Type 0 where
   pub phase-fits : T (fits binary64 (n .phase))
   pub step-fits : T (fits binary64 (n .step))
   pub phase-in : T (phaseInRange (n .phase))
@@ -73,8 +73,8 @@ pub advanced-fits : (step phase : Float) → T (fits binary64 (advanced step pha
 unfolding advanced
 advanced-fits step phase = cond-fits binary64 (le tau (plus phase step)) (minus (plus phase step) tau) (plus phase step) (sub-fits binary64 (plus phase step) tau) (add-fits binary64 phase step)
 
-pub stepped-turning : {n : Nco} → Turning n → Turning (steppedNco n)
-stepped-turning {n} t =
+pub stepped-in-range : {n : Nco} → InRange n → InRange (steppedNco n)
+stepped-in-range {n} t =
     record {
       phase-fits = advanced-fits (n .step) (n .phase);
       step-fits = t .step-fits;

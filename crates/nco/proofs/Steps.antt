@@ -20,7 +20,7 @@ use Rattle.math.proofs.Bounds.{AtMost, at-most}
 use Rattle.math.proofs.Wrapping.{value-within}
 use Rattle.nco.specs.Nco.{stepOf, phaseInRange, freshNco, retuned}
 use Rattle.nco.specs.declared.Nco.{Nco}
-use Rattle.nco.proofs.Phase.{tau-value, Turning}
+use Rattle.nco.proofs.Phase.{tau-value, InRange}
 
 tau-short : HasValue tau false 0x19_21fb_5444_2d18 (2 ^ 50)
 unfolding ofBits
@@ -67,12 +67,12 @@ zero-in : T (phaseInRange float.zero)
 unfolding le lt ofBits
 zero-in = tt
 
-pub fresh-turning : (freq : Float) (k r : ℕ) → HasValue freq false k 1 → k ≤ 6000 → 8000 ≤ r → r ≤ 192000 → Turning (freshNco freq (ofNat r))
-fresh-turning freq k r f K lo hi =
+pub fresh-in-range : (freq : Float) (k r : ℕ) → HasValue freq false k 1 → k ≤ 6000 → 8000 ≤ r → r ≤ 192000 → InRange (freshNco freq (ofNat r))
+fresh-in-range freq k r f K lo hi =
     record { phase-fits = ofBits-fits binary64 0; step-fits = div-fits binary64 (times tau freq) (ofNat r); phase-in = zero-in; step-in = step-in-range freq k r f K lo hi }
 
-pub retuned-turning : {n : Nco} → Turning n → (freq : Float) (k r : ℕ) → n .rate ≡ ofNat r → HasValue freq false k 1 → k ≤ 6000 → 8000 ≤ r → r ≤ 192000 → Turning (retuned n freq)
-retuned-turning {n} t freq k r e f K lo hi =
+pub retuned-in-range : {n : Nco} → InRange n → (freq : Float) (k r : ℕ) → n .rate ≡ ofNat r → HasValue freq false k 1 → k ≤ 6000 → 8000 ≤ r → r ≤ 192000 → InRange (retuned n freq)
+retuned-in-range {n} t freq k r e f K lo hi =
     record {
       phase-fits = t .phase-fits;
       step-fits = div-fits binary64 (times tau freq) (n .rate);

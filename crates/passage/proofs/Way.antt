@@ -34,7 +34,7 @@ stageAt zero = stage.OffHook
 stageAt (suc k) = nextStage (stageAt k)
 
 before-next : (k : Stage) (r d : ℕ) → samplesBefore (nextStage k) r d ≡ samplesBefore k r d + stageLength k r d
-unfolding samplesBefore stageLength total
+unfolding samplesBefore stageLength
 before-next stage.OffHook r d = sym (zero-add _)
 before-next stage.DialTone r d = refl
 before-next stage.Dialling r d = refl
@@ -130,7 +130,7 @@ module _ (digits : List ℕ) (r : ℕ) (lo : 8000 ≤ r) (hi : r ≤ 192000) (fe
 
   -- ---- T
   pub overture-length : HasLength digits r (total r (length digits))
-  unfolding samplesBefore enterOf
+  unfolding total samplesBefore enterOf
   overture-length = record {
     sounding = not-after stage.Training (lit≤ tt);
     connected = λ j. after-entry stage.Connected j ∙ connected-stays digits r j;

@@ -1,5 +1,5 @@
 -- What lies between the ends of a run agrees with them: t never falls as n grows, and neither do t / 0.45, its floor, or t - 3. Rounding
--- never turns two numbers round, so no error is worked out. Values are in units of 2 ^ -1074, which hold them all. Assumes nothing.
+-- never quotient two numbers round, so no error is worked out. Values are in units of 2 ^ -1074, which hold them all. Assumes nothing.
 use mathlib.Core.Path.{_≡_, refl, sym, ap, _∙_, subst}
 use mathlib.Core.Bool.{Bool, true, false, _&&_, Bool·beq, and-eq-true-iff}
 use Prim.Native.Nat.{ℕ, zero, suc, _+_, _-_, _*_, _/_, _%_, _^_, _≤_, _<_}
@@ -98,7 +98,7 @@ record Ordered (u v w : Float) : Type 0 where
   b-c : b ≤ c
 
 tone-between : (u v w : Float) → Ordered u v w → samePart u w ≡ true → ringTone v ≡ ringTone u
-unfolding samePart ringTone
+unfolding ringTone
 tone-between u v w O e =
     let P = pow-pos 1074 in
     let (on, rest) = and-eq-true-iff (Bool·beq (lt u ringOn) (lt w ringOn)) _ .0 e in
@@ -138,27 +138,27 @@ module _ (r : ℕ) (lo : 8000 ≤ r) (hi : r ≤ 192000) where
         (rw (time-is n (le-trans h M), time-is m M) (round-mono binary64 n r m r pos pos (mul-le-mul-right r h)))
 
   -- ---- t / 0.45
-  turns-is : (n : ℕ) (N : n ≤ 2 ^ 32) → over (timeAt r n) reversal ≡ round binary64 false (time n N .at) G
-  turns-is n N = div-by binary64 (timeAt r n) reversal (time n N .at) G (2 ^ 1074) (pow-pos 1074) (lit< tt) (time n N .value) reversal-value
+  quotient-is : (n : ℕ) (N : n ≤ 2 ^ 32) → over (timeAt r n) reversal ≡ round binary64 false (time n N .at) G
+  quotient-is n N = div-by binary64 (timeAt r n) reversal (time n N .at) G (2 ^ 1074) (pow-pos 1074) (lit< tt) (time n N .value) reversal-value
 
-  turns : (n : ℕ) → n ≤ 2 ^ 32 → AtMost (1 * 2 ^ 1096) (over (timeAt r n) reversal)
-  turns n N =
-      subst (AtMost (1 * 2 ^ 1096)) (sym (turns-is n N))
+  quotient : (n : ℕ) → n ≤ 2 ^ 32 → AtMost (1 * 2 ^ 1096) (over (timeAt r n) reversal)
+  quotient n N =
+      subst (AtMost (1 * 2 ^ 1096)) (sym (quotient-is n N))
       (at-most (time n N .at) G 1 1096 (lit< tt) (lit< tt) (lit< tt) (le-trans (mul-le-mul-right (2 ^ 1074) (time n N .most)) (lit≤ tt)))
 
-  reversals-is : (n : ℕ) (N : n ≤ 2 ^ 32) → floorOf (over (timeAt r n) reversal) ≡ turns n N .at / 2 ^ 1074
-  reversals-is n N = floor-at (over (timeAt r n) reversal) (turns n N .at) (2 ^ 1074) (pow-pos 1074) (turns n N .value) (lt-of-le-of-lt (turns n N .most) (lit< tt))
+  reversals-is : (n : ℕ) (N : n ≤ 2 ^ 32) → floorOf (over (timeAt r n) reversal) ≡ quotient n N .at / 2 ^ 1074
+  reversals-is n N = floor-at (over (timeAt r n) reversal) (quotient n N .at) (2 ^ 1074) (pow-pos 1074) (quotient n N .value) (lt-of-le-of-lt (quotient n N .most) (lit< tt))
 
   reversals-grow : (n m : ℕ) → n ≤ m → m ≤ 2 ^ 32 → floorOf (over (timeAt r n) reversal) ≤ floorOf (over (timeAt r m) reversal)
   reversals-grow n m h M =
       let N = le-trans h M in
       rw (reversals-is n N, reversals-is m M)
-      (div-grows (turns n N .at) (turns m M .at) (2 ^ 1074) (pow-pos 1074)
-      (of-le (over (timeAt r n) reversal) (over (timeAt r m) reversal) (turns n N .at) (turns m M .at) (2 ^ 1074) (pow-pos 1074) (turns n N .value) (turns m M .value)
-      (rw (turns-is n N, turns-is m M) (round-mono binary64 (time n N .at) G (time m M .at) G (lit< tt) (lit< tt) (mul-le-mul-right G (time-grows n m h M))))))
+      (div-grows (quotient n N .at) (quotient m M .at) (2 ^ 1074) (pow-pos 1074)
+      (of-le (over (timeAt r n) reversal) (over (timeAt r m) reversal) (quotient n N .at) (quotient m M .at) (2 ^ 1074) (pow-pos 1074) (quotient n N .value) (quotient m M .value)
+      (rw (quotient-is n N, quotient-is m M) (round-mono binary64 (time n N .at) G (time m M .at) G (lit< tt) (lit< tt) (mul-le-mul-right G (time-grows n m h M))))))
 
   sign-between : (n k m : ℕ) → n ≤ k → k ≤ m → m ≤ 2 ^ 32 → sameReversal (timeAt r n) (timeAt r m) ≡ true → signAt (timeAt r k) ≡ signAt (timeAt r n)
-  unfolding sameReversal signAt
+  unfolding signAt
   sign-between n k m h l M e =
       let s = eqb-true (floorOf (over (timeAt r n) reversal)) (floorOf (over (timeAt r m) reversal)) e in
       ap (λ (f : ℕ). signBy (eqb (f % 2) 0))

@@ -51,11 +51,11 @@ pub record OneKey (r n digit : ℕ) (tone : Bool) (most c : ℕ) : Type 0 where
   pub tone-stays : (j : ℕ) → j < c → inTone (timeAt r (counted (suc j) n)) ≡ tone
 
 -- whether two times have the same count of reversals behind them
-unfoldable pub sameReversal : Float → Float → Bool
+abbrev pub sameReversal : Float → Float → Bool
 sameReversal s t = eqb (floorOf (over s reversal)) (floorOf (over t reversal))
 
 -- whether two times since a ring's start are on the same side of each of the cadence's edges
-unfoldable pub samePart : Float → Float → Bool
+abbrev pub samePart : Float → Float → Bool
 samePart u v =
     Bool·beq (lt u ringOn) (lt v ringOn)
     && (Bool·beq (le (plus ringOn ringOff) u) (le (plus ringOn ringOff) v) && Bool·beq (lt u one) (lt v one))

@@ -64,8 +64,8 @@ at-2400 : Second 2400
 unfolding inTone digitAt floorOf div sub mul lt ofInt ofBits
 at-2400 = (refl, refl)
 
-pub second-digit-sounds : (k : ℕ) → 1600 ≤ k → k ≤ 2400 → Second k
-second-digit-sounds k lo hi = elim (eq-or-lt-of-le lo) [
+pub second-digit-in-tone : (k : ℕ) → 1600 ≤ k → k ≤ 2400 → Second k
+second-digit-in-tone k lo hi = elim (eq-or-lt-of-le lo) [
   | inl e ↦ subst Second e at-1600
   | inr l ↦ elim (eq-or-lt-of-le hi) [ inl e ↦ subst Second (sym e) at-2400 | inr h ↦ in-tone 8000 (lit≤ tt) (lit≤ tt) k (omega arith) 1 (lit≤ tt) (omega arith) (omega arith) ]
 ]

@@ -1,6 +1,7 @@
 -- 01, "Stages": the samples of each of the stages 1 to 9, and T, their sum, for d digits at the rate r.
 use Prim.Native.Nat.{ℕ, zero, suc, _+_}
 use mathlib.Core.Bool.{Bool, true, false}
+use mathlib.Core.List.{List, [], _∷_}
 use lib.Dec.{leb}
 use lib.Ieee.{Float}
 use Rattle.math.specs.Float.{f64, ofNat, one}
@@ -36,15 +37,28 @@ unfoldable pub diallingLength : ℕ → ℕ → ℕ
 diallingLength r zero = 1
 diallingLength r (suc d) = firstFrom (λ n. leb (suc d) (digitAt (timeAt r n))) 4000000 (leb (suc d) (digitAt (timeAt r 1))) 1
 
--- T
-unfoldable pub total : ℕ → ℕ → ℕ
-total r d =
+-- the samples of each of the stages 1 to 9, in their order
+abbrev pub stageLengths : ℕ → ℕ → List ℕ
+stageLengths r d =
     samplesIn clickTime r
-    + samplesIn one r
-    + diallingLength r d
-    + samplesIn ringbackTime r
-    + bitsLength r 60
-    + samplesIn ansamTime r
-    + bitsLength r 80
-    + (bitsLength r 60 + samplesIn cjSilence r)
-    + bitsLength r 300
+    ∷ samplesIn one r
+    ∷ diallingLength r d
+    ∷ samplesIn ringbackTime r
+    ∷ bitsLength r 60
+    ∷ samplesIn ansamTime r
+    ∷ bitsLength r 80
+    ∷ (bitsLength r 60 + samplesIn cjSilence r)
+    ∷ bitsLength r 300
+    ∷ []
+
+abbrev pub sumFrom : ℕ → List ℕ → ℕ
+sumFrom n [] = n
+sumFrom n (k ∷ ks) = sumFrom (n + k) ks
+
+abbrev pub sum : List ℕ → ℕ
+sum [] = 0
+sum (k ∷ ks) = sumFrom k ks
+
+-- T, their sum
+unfoldable pub total : ℕ → ℕ → ℕ
+total r d = sum (stageLengths r d)

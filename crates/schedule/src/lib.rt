@@ -1,5 +1,5 @@
-// When each stage of an overture does what: seconds, digits, rings, symbols, and how long a
-// stage lasts. There is no oscillator in here, so that a length is worked out without a sample.
+// The clocks of an overture: a stage's seconds and its end in samples, and what digit, ring, sign
+// or bit a time belongs to. There is no oscillator in here.
 ghost use mathlib.Core.Path.{_≡_};
 ghost use Rattle.schedule.specs.Time.{timeAt, samplesIn, saturatingInc};
 ghost use Rattle.schedule.specs.Dialling.{digitAt, inTone};
@@ -67,7 +67,7 @@ pub fn dialling_phase(t: f64) -> DiallingPhase
     }
 }
 
-// Whether the cadence sounds, time seconds into its ring.
+// Whether the cadence is in tone, time seconds into its ring.
 pub fn ringback_gate(time: f64) -> bool
     ensures { λ r. ⌜ r ≡ ringTone time ⌝ }
 {

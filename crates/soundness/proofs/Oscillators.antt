@@ -1,5 +1,5 @@
 -- A sound oscillator: what its test says of it and what that test asks. A fresh one is sound, and a sound one after a sample and at another
--- frequency: phase and step stay in the turn, and the rate, which `==` compares, is r itself. Assumes nothing.
+-- frequency: phase and step stay in [0, TAU), and the rate, which `==` compares, is r itself. Assumes nothing.
 use mathlib.Core.Path.{_≡_, refl}
 use mathlib.Core.Bool.{true, false, and-eq-true-iff}
 use Prim.Native.Nat.{ℕ, _≤_}
@@ -16,8 +16,8 @@ use Rattle.math.proofs.Values.{nat-value}
 use Rattle.math.proofs.Equal.{eq-self, equal}
 use Rattle.nco.specs.declared.Nco.{Nco}
 use Rattle.nco.specs.Nco.{phaseInRange, freshNco, retuned, steppedNco}
-use Rattle.nco.proofs.Phase.{Turning, stepped-turning}
-use Rattle.nco.proofs.Steps.{fresh-turning, retuned-turning}
+use Rattle.nco.proofs.Phase.{InRange, stepped-in-range}
+use Rattle.nco.proofs.Steps.{fresh-in-range, retuned-in-range}
 use Rattle.schedule.proofs.Samples.{rate-value}
 use Rattle.soundness.specs.Sound.{ncoOk}
 use Rattle.soundness.proofs.Limits.{holds, both-true}
@@ -32,7 +32,7 @@ pub record NcoFits (o : Nco) : Type 0 where
   pub rate : Double (o .rate)
 
 pub record SoundNco (o : Nco) (r : ℕ) : Type 0 where
-  pub turning : Turning o
+  pub in-range : InRange o
   pub rate : o .rate ≡ ofNat r
 
 -- a frequency that is a whole number of hertz, as all of 01's are
@@ -52,25 +52,25 @@ module _ (r : ℕ) (lo : 8000 ≤ r) (hi : r ≤ 192000) where
       let (phase, rest) = and-eq-true-iff (phaseInRange (o .phase)) _ .0 e in
       let (step, rate) = and-eq-true-iff (phaseInRange (o .step)) _ .0 rest in
       record {
-        turning = record { phase-fits = h .phase; step-fits = h .step; phase-in = holds phase; step-in = holds step };
+        in-range = record { phase-fits = h .phase; step-fits = h .step; phase-in = holds phase; step-in = holds step };
         rate = equal (o .rate) (ofNat r) r 1 (omega arith) (zero-lt-suc 0) (rate-value r hi) (h .rate) (ofInt-fits binary64 (pos r)) (holds rate);
       }
 
   pub nco-ok : (o : Nco) → SoundNco o r → ncoOk o r ≡ true
   unfolding ncoOk
   nco-ok o s =
-      both-true (is-true (phaseInRange (o .phase)) (s .turning .phase-in))
-      (both-true (is-true (phaseInRange (o .step)) (s .turning .step-in)) (rw (s .rate) (is-true (eq (ofNat r) (ofNat r)) (eq-self (ofNat r) false r 1 (rate-value r hi)))))
+      both-true (is-true (phaseInRange (o .phase)) (s .in-range .phase-in))
+      (both-true (is-true (phaseInRange (o .step)) (s .in-range .step-in)) (rw (s .rate) (is-true (eq (ofNat r) (ofNat r)) (eq-self (ofNat r) false r 1 (rate-value r hi)))))
 
   pub nco-fits : (o : Nco) → SoundNco o r → NcoFits o
-  nco-fits o s = record { phase = s .turning .phase-fits; step = s .turning .step-fits; rate = rw (s .rate) (ofInt-fits binary64 (pos r)) }
+  nco-fits o s = record { phase = s .in-range .phase-fits; step = s .in-range .step-fits; rate = rw (s .rate) (ofInt-fits binary64 (pos r)) }
 
   -- ---- fresh, after a sample, at another frequency
   pub fresh-nco : (freq : Float) → Hertz freq → SoundNco (freshNco freq (ofNat r)) r
-  fresh-nco freq f = record { turning = fresh-turning freq (f .count) r (f .value) (f .most) lo hi; rate = refl }
+  fresh-nco freq f = record { in-range = fresh-in-range freq (f .count) r (f .value) (f .most) lo hi; rate = refl }
 
   pub stepped-nco : (o : Nco) → SoundNco o r → SoundNco (steppedNco o) r
-  stepped-nco o s = record { turning = stepped-turning (s .turning); rate = s .rate }
+  stepped-nco o s = record { in-range = stepped-in-range (s .in-range); rate = s .rate }
 
   pub retuned-nco : (o : Nco) (freq : Float) → Hertz freq → SoundNco o r → SoundNco (retuned o freq) r
-  retuned-nco o freq f s = record { turning = retuned-turning (s .turning) freq (f .count) r (s .rate) (f .value) (f .most) lo hi; rate = s .rate }
+  retuned-nco o freq f s = record { in-range = retuned-in-range (s .in-range) freq (f .count) r (s .rate) (f .value) (f .most) lo hi; rate = s .rate }

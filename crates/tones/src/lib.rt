@@ -1,5 +1,5 @@
-// What sounds on the line, one sample at a time, whatever stage it is of: the click's noise, two
-// oscillators mixed or at rest, ANSam, and the digits that are dialled.
+// Samples, one at a time, of whatever stage: the click's noise, two oscillators mixed or at rest,
+// ANSam, and the digits that are dialled.
 use keys::Tones;
 use nco::Nco;
 ghost use mathlib.Core.Path.{_≡_};

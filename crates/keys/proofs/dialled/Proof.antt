@@ -1,12 +1,12 @@
 -- `dialled` meets its contract. The invariant is `Dialled`: the array holds the digits of the bytes passed.
--- A turn keeps a key, passes over one that has no room, or drops another byte, each by its law. Assumes nothing.
+-- A step stores a key, passes over one that has no room, or drops another byte, each by its law. Assumes nothing.
 use Prim.Native.Nat.{_-_}
 use mathlib.Core.Path.{sym, _∙_}
 use lib.ListN.{length}
 use lib.Seq.{take-all}
 use native.Mathlib.Omega.{arith}
 use borrow.Author.Needs.{needs}
-use Rattle.keys.proofs.Line.{Dialled, none-yet, key-kept, key-past, other-dropped}
+use Rattle.keys.proofs.Line.{Dialled, none-yet, key-stored, key-over, other-dropped}
 use Rattle.keys.proofs.dialled.Statement.{statement}
 use Rattle.keys.proofs.dialled.Tie as tie
 
@@ -43,7 +43,7 @@ loop-less c = omega arith
 loop-again : tie.Need-loop-again Inv-loop μ-loop
 loop-again c =
     let now = c .before .before .before .before .before in
-    key-kept _ _ _ _ _ (now .before .loop .inv) (now .loop-test .taken) (c .before .before .before .uppercase .ensures) (sym (c .before .before .is-key .ensures) ∙ c .before .if1 .taken) (c .if2 .taken)
+    key-stored _ _ _ _ _ (now .before .loop .inv) (now .loop-test .taken) (c .before .before .before .uppercase .ensures) (sym (c .before .before .is-key .ensures) ∙ c .before .if1 .taken) (c .if2 .taken)
 
 loop-less-2 : tie.Need-loop-less-2 Inv-loop μ-loop
 loop-less-2 c = omega arith
@@ -51,7 +51,7 @@ loop-less-2 c = omega arith
 loop-again-2 : tie.Need-loop-again-2 Inv-loop μ-loop
 loop-again-2 c =
     let now = c .before .before .before .before .before in
-    key-past _ _ _ _ _ (now .before .loop .inv) (now .loop-test .taken) (c .before .before .before .uppercase .ensures) (sym (c .before .before .is-key .ensures) ∙ c .before .if1 .taken) (c .if2 .left)
+    key-over _ _ _ _ _ (now .before .loop .inv) (now .loop-test .taken) (c .before .before .before .uppercase .ensures) (sym (c .before .before .is-key .ensures) ∙ c .before .if1 .taken) (c .if2 .left)
 
 loop-less-3 : tie.Need-loop-less-3 Inv-loop μ-loop
 loop-less-3 c = omega arith

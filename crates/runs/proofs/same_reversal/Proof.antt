@@ -1,5 +1,4 @@
 -- `same_reversal` meets its contract, by what `floor` ensures. Assumes nothing.
-use Rattle.runs.specs.Runs.{sameReversal}
 use borrow.Author.Needs.{needs}
 use Rattle.runs.proofs.same_reversal.Statement.{statement}
 use Rattle.runs.proofs.same_reversal.Tie as tie
@@ -11,7 +10,6 @@ floor-requires-2 : tie.Need-floor-requires-2
 floor-requires-2 c κs = search needs
 
 returns : tie.Need-returns
-unfolding sameReversal
 returns c = rw (c .floor2 .ensures, c .before .floor .ensures)
 
 pub same-reversal-spec : {M : Type 1} → statement M

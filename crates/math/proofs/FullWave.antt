@@ -1,4 +1,4 @@
--- Where two numbers are both in the turn, S is the full wave of each: by its definition, with the test given. Assumes nothing.
+-- Where two numbers are both in [0, TAU), S is the full wave of each: by its definition, with the test given. Assumes nothing.
 use mathlib.Core.Path.{_≡_, ap}
 use mathlib.Core.Bool.{Bool, true, cond, _&&_, and-eq-true-iff}
 use lib.Ieee.{Float, le, lt}
