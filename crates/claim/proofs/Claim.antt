@@ -7,33 +7,26 @@ use mathlib.Core.Bool.{Bool, true, false, true≢false}
 use mathlib.Core.List.{List, [], _∷_, map}
 use mathlib.Core.Logic.{_⊎_, inl, inr, ⊎-elim, _↔_}
 use lib.ListN.{length}
-use Rattle.keys.specs.Keys.{allKeys}
 use Rattle.schedule.proofs.Total.{total-bounds}
 use Rattle.passage.proofs.Way.{overture-length}
 use Rattle.passage.proofs.Connected.{samples-past}
-use Rattle.soundness.specs.Sound.{rateOk, digitsOk, stateOk, soundState}
+use Rattle.soundness.specs.Sound.{rateOk}
 use Rattle.soundness.proofs.Limits.{rate-low, rate-high, digits-few}
-use Rattle.at.proofs.Sound.{sound-fresh}
 use Rattle.session.specs.declared.SessionState.{SessionState}
 use Rattle.session.specs.declared.SessionState.the-variants.{Idle, Dialling, Answering, Connected}
 use Rattle.session.specs.Session.{stateNumber, idle}
 use Rattle.set.specs.declared.Set.{Set}
-use Rattle.set.specs.declared.Refusal.{Refusal}
-use Rattle.set.specs.Refusals.{refusalNumber}
+use Rattle.set.specs.Refusals.{refusalNumber, causeOfCreation, accepted, ifAccepted}
 use Rattle.set.specs.Sound.{sound}
 use Rattle.set.specs.Set as set
 use Rattle.set.specs.Book.{Book, blank, overture, lengthOf, entryOf, entered}
 use Rattle.set.specs.Event.{Event}
-use Rattle.set.proofs.Unchanged.{Refused}
+use Rattle.set.proofs.Soundness.{fresh-sound}
 use Rattle.set.proofs.Follows.{Follows, Invariant}
 use Rattle.set.proofs.Steps.{Stepped, feed-steps, advance-time-steps, force-data-mode-steps, process-out-steps}
 use Rattle.claim.specs.Trace.{Did, typed, lapsed, forced, filled, Trace, setAfter}
 use Rattle.claim.specs.Claim.{SinceDial, notCalled, sinceNext, NeverBack, Reports, Answered, AllAnswered, callOf, bookAfter, sinceAfter, bitsOf, Played, Claim}
 use Rattle.claim.proofs.Consistent.{Progress, Consistent, room-left, never-6, entry-consistent, blank-consistent}
-
-refused : (cause : Refusal) → (refusalNumber cause ≡ 0 → ⊥) → Refused cause
-unfolding refusalNumber
-refused cause numbered e = numbered (ap refusalNumber e)
 
 -- what each call's own contract tells
 one : (r : ℕ) (k : Book) (s : Set) → Invariant r k s → (e : Event) → Did s e → Stepped r k s e
@@ -65,7 +58,7 @@ module _ (r : ℕ) (ok : rateOk r ≡ true) where
         record {
           number = q .effect .number;
           sound = λ (six : refusalNumber (e .refusal) ≡ 6). never-6 r ok (entryOf k (e .call)) (q .effect .limits) (sym (q .effect .number) ∙ six);
-          unchanged = λ numbered. q .unchanged (refused _ numbered);
+          unchanged = q .unchanged;
           reports = reports f;
         },
         record {
@@ -132,11 +125,11 @@ module _ (r : ℕ) (ok : rateOk r ≡ true) where
       }
 
   pub fresh-invariant : ListInvariant r (set.freshSet r) blank notCalled
-  unfolding idle sound soundState stateOk digitsOk allKeys
+  unfolding idle
   fresh-invariant =
       record {
         follows = record { rate = refl; processor = refl; state = refl; digits = refl; count = refl; shown = refl; stage = refl };
-        sound = rw (ok, sound-fresh);
+        sound = fresh-sound r ok;
         consistent = blank-consistent r;
       }
 
@@ -150,9 +143,9 @@ module _ (r : ℕ) (ok : rateOk r ≡ true) where
 
 -- a set that creation hands out is fresh at a rate in limits
 pub claim : (rate : ℕ) → Claim (set.made rate .set)
-unfolding set.made rateOk
+unfolding set.made set.creationCause rateOk accepted
 claim rate = go (rateOk rate) refl
   where
-    go : (t : Bool) → rateOk rate ≡ t → Claim (set.madeIf t rate .set)
+    go : (t : Bool) → rateOk rate ≡ t → Claim (set.freshSet (ifAccepted (causeOfCreation t) rate 8000))
     go true ok = fresh-holds rate ok
     go false ok = fresh-holds 8000 refl

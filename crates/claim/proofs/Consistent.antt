@@ -220,7 +220,7 @@ module _ (r : ℕ) where
         record { called = c .called; past = c .past; most = c .most; rising = c .rising; wrote = c .wrote; sum = c .sum }
 
     pub never-6 : (entry : Entry) → InLimits entry → numberOf entry ≡ 6 → ⊥
-    never-6 (declined number) limits e = limits e
+    never-6 (declined cause) limits e = limits e
     never-6 (asks control line p) limits e = omega arith
     never-6 (fills b) limits e = omega arith
 
@@ -278,7 +278,7 @@ module _ (r : ℕ) where
     pub entry-consistent : (k : Book) (h : SinceDial) → Consistent k h → (entry : Entry) → InLimits entry → (left : List Float) → Wrote r k entry left
         → let next = nextBook r k entry in
         Consistent next (noted entry r k left (next .state) (next .shown) h)
-    entry-consistent k h consistent (declined number) limits left w = passed-consistent k h consistent
+    entry-consistent k h consistent (declined cause) limits left w = passed-consistent k h consistent
     entry-consistent k h consistent (asks control line p) (short, good) left w = applied-consistent k h consistent control line p short good
     entry-consistent k h consistent (fills b) room left w = filled-consistent b left h room (k .processor) (k .state) (k .digits) (k .count) (k .shown) w consistent
 

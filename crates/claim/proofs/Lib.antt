@@ -1,6 +1,7 @@
--- The claim and what it rests on, a worked list, and 01's proving cases.
+-- The claim and what it rests on, what it says read back, a worked list, and 01's proving cases.
 pub mod Consistent
 pub mod Claim
+pub mod Reading
 pub mod Lists
 pub mod Worked
 pub mod Cases

@@ -24,7 +24,9 @@ use Rattle.at.specs.Command.{executed}
 use Rattle.at.specs.At.{ended, commandByte, typedByte, lineFull}
 use Rattle.session.specs.declared.SessionState.{SessionState}
 use Rattle.session.specs.declared.SessionState.the-variants.{Dialling, Connected}
+use Rattle.session.specs.Session.{stateNumber}
 use Rattle.soundness.specs.Sound.{rateOk}
+use Rattle.set.specs.Refusals.{accepted}
 use Rattle.set.specs.Set.{freshSet}
 use Rattle.set.specs.Book.{Call, typing, filling, Book, blank, lengthOf, stageOfSample, shownBy, stateIf, afterFill, entryOf, entered}
 use Rattle.set.specs.Event.{Event}
@@ -39,7 +41,7 @@ abbrev pub dial12 : List Call
 dial12 = map (λ (byte : ℕ). typing byte false 4) (ascii "ATDT12\r")
 
 pub dialled : (bookAfter 8000 blank dial12 .state ≡ Dialling) × (bookAfter 8000 blank dial12 .digits ≡ ascii "12") × (bookAfter 8000 blank dial12 .count ≡ 0)
-unfolding entered entryOf typedByte commandByte ended pushed upper uppercased begins is commandOf executed lineFull digitsOf keysOf isKey keyRow
+unfolding entered entryOf typedByte commandByte ended pushed upper uppercased begins is commandOf executed lineFull digitsOf keysOf isKey keyRow accepted
 dialled = (refl, refl, refl)
 
 -- T, for 12 at 8,000
@@ -76,12 +78,11 @@ same-count : {state : SessionState} {a b : ℕ} {k : Book} → a ≡ b → At st
 same-count e p = record { state-is = p .state-is; digits-are = p .digits-are; count-is = p .count-is ∙ e }
 
 after-fill-at : (up : Bool) (shown count : ℕ) (k : Book) → k .digits ≡ ascii "12" → At (stateIf up) count (afterFill up shown count k)
-after-fill-at true shown count k e = record { state-is = refl; digits-are = e; count-is = refl }
-after-fill-at false shown count k e = record { state-is = refl; digits-are = e; count-is = refl }
+after-fill-at up shown count k e = record { state-is = refl; digits-are = e; count-is = refl }
 
 fill-at : (up : Bool) (count b : ℕ) (k : Book) → At Dialling count k → b ≤ 65536
     → eqb (shownBy (ascii "12") 8000 count b) 10 ≡ up → At (stateIf up) (count + b) (entered 8000 k (filling b))
-unfolding entered entryOf
+unfolding entered entryOf accepted stateNumber
 fill-at up count b k a short e =
     let now : Book = record { processor = k .processor; state = Dialling; digits = ascii "12"; count = count; shown = k .shown } in
     rw (a .state-is, le-ltb 65536 b short, a .digits-are, a .count-is, e) (after-fill-at up _ (count + b) now refl)

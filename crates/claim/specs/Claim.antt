@@ -14,7 +14,7 @@ use Rattle.session.specs.declared.SessionState.the-variants.{Idle, Dialling, An
 use Rattle.schedule.specs.Bounds.{TotalBounds}
 use Rattle.passage.specs.Overture.{HasLength}
 use Rattle.set.specs.declared.Set.{Set}
-use Rattle.set.specs.Refusals.{refusalNumber}
+use Rattle.set.specs.Refusals.{refusalNumber, Declined}
 use Rattle.set.specs.Book.{Call, Book, blank, overture, lengthOf, Entry, declined, asks, fills, entryOf, declinedWith, entered}
 use Rattle.set.specs.Event.{Event, Unchanged}
 use Rattle.claim.specs.Trace.{Trace, setAfter}
@@ -67,7 +67,7 @@ notedFill Connected b r k left state stage h = passed state stage h
 
 -- by what the call comes to in the book, the book before it, the buffer that it left, and the state and the stage that the set shows after it
 abbrev pub noted : Entry → ℕ → Book → List Float → SessionState → ℕ → SinceDial → SinceDial
-noted (declined number) r k left state stage h = passed state stage h
+noted (declined cause) r k left state stage h = passed state stage h
 noted (asks control line p) r k left state stage h = notedControl control state stage h
 noted (fills b) r k left state stage h = notedFill (k .state) b r k left state stage h
 
@@ -94,7 +94,7 @@ pub record Reports (s : Set) (k : Book) : Type 0 where
 pub record Answered (r : ℕ) (s : Set) (k : Book) (e : Event) : Type 0 where
   pub number : refusalNumber (e .refusal) ≡ declinedWith k (e .call)
   pub sound : refusalNumber (e .refusal) ≡ 6 → ⊥
-  pub unchanged : (refusalNumber (e .refusal) ≡ 0 → ⊥) → Unchanged s e
+  pub unchanged : Declined (e .refusal) → Unchanged s e
   pub reports : Reports (e .set) (entered r k (e .call))
 
 abbrev pub AllAnswered : ℕ → Set → Book → List Event → Type 0

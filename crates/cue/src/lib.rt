@@ -1,18 +1,35 @@
 // The cue: for a digit of the call, a sample in that digit's tone, so that a light can be set to it.
-use set::Refusal;
 use set::Set;
 ghost use mathlib.Core.Path.{_≡_};
-ghost use mathlib.Core.Bool.{true};
 ghost use Prim.Native.Nat.{_+_, _*_, _/_, _<_, _≤_};
 ghost use Rattle.math.specs.Float.{one};
 ghost use Rattle.schedule.specs.Time.{samplesIn};
 ghost use Rattle.schedule.specs.Length.{clickTime};
-ghost use Rattle.set.specs.Sound.{sound};
-ghost use Rattle.cue.specs.Cue.{CueIs};
+ghost use Rattle.cue.specs.Cue.{cueRefusalNumber, cueCause, CueIs};
+
+// Why a cue is declined, if it is.
+pub enum Refusal {
+    Accepted,
+    Unsound,
+    Position,
+}
 
 pub struct Cued {
     pub refusal: Refusal,
     pub sample: u64,
+}
+
+impl Refusal {
+    // 01's number.
+    pub fn number(self) -> u8
+        ensures { λ r. ⌜ r ≡ cueRefusalNumber self ⌝ }
+    {
+        match self {
+            Refusal::Accepted => 0,
+            Refusal::Unsound => 6,
+            Refusal::Position => 7,
+        }
+    }
 }
 
 // The middle of a digit's tone: 0.05 s into it.
@@ -27,34 +44,29 @@ fn cue_sample(position: u32, rate: u32) -> u64
     click + tone + place + 1
 }
 
-// A sample number, from 1 in the whole overture, in the tone of the digit at a position.
-pub fn cue(set: Set, position: u32) -> Cued
-    ensures { λ c. ⌜ CueIs set position c ⌝ }
-{
-    if set.sound() {
-        return cue_sound(set, position);
-    }
-    Cued {
-        refusal: Refusal::Unsound,
-        sample: 0,
-    }
-}
-
-fn cue_sound(set: Set, position: u32) -> Cued
-    requires { ⌜ sound set ≡ true ⌝ }
-    ensures { λ c. ⌜ CueIs set position c ⌝ }
+fn cue_cause(set: Set, position: u32) -> Refusal
+    ensures { λ r. ⌜ r ≡ cueCause set position ⌝ }
 {
     let session = set.session;
     let state = session.state;
     let len = session.digits.len;
-    if (state.number() == 1) & ((position as usize) < len) {
-        return Cued {
-            refusal: Refusal::Accepted,
-            sample: cue_sample(position, set.rate),
-        };
+    if set.sound() {
+        if (state.number() == 1) & ((position as usize) < len) {
+            return Refusal::Accepted;
+        }
+        return Refusal::Position;
     }
-    Cued {
-        refusal: Refusal::Position,
-        sample: 0,
+    Refusal::Unsound
+}
+
+// A sample number, from 1 in the whole overture, in the tone of the digit at a position.
+pub fn cue(set: Set, position: u32) -> Cued
+    ensures { λ c. ⌜ CueIs set position c ⌝ }
+{
+    let refusal = cue_cause(set, position);
+    if refusal.number() == 0 {
+        let sample = cue_sample(position, set.rate);
+        return Cued { refusal, sample };
     }
+    Cued { refusal, sample: 0 }
 }

@@ -1,6 +1,6 @@
 -- 01, "The set": a session. It holds the state, the digits, m, the count of samples written since the dial line, the shown stage, and the
 -- stage's state.
-use Prim.Native.Nat.{ℕ, _+_}
+use Prim.Native.Nat.{ℕ}
 use mathlib.Core.Bool.{Bool, true, false}
 use mathlib.Core.List.{List, []}
 use lib.Dec.{eqb}
@@ -11,6 +11,7 @@ use Rattle.stage.specs.declared.Stage.{Stage}
 use Rattle.stage.specs.declared.StageState.{StageState}
 use Rattle.stage.specs.declared.StageState.the-variants as at
 use Rattle.stage.specs.Stage.{stageNumber}
+use Rattle.runs.specs.Runs.{counted}
 use Rattle.overture.specs.Iteration.{fresh, after, samples, shownAfter}
 use Rattle.session.specs.declared.SessionState.{SessionState}
 use Rattle.session.specs.declared.SessionState.the-variants.{Idle, Dialling, Answering, Connected}
@@ -60,13 +61,13 @@ abbrev pub shownNumber : Bool → Stage → ℕ
 shownNumber true s = 0
 shownNumber false s = stageNumber s
 
--- a fill of b samples in Dialling
+-- a fill of b samples in Dialling; they are counted as far as there is room in m
 abbrev pub showing : Session → Stage → ℕ → StageState → Session
 showing s shown b next =
     record {
       state = shownState (connects shown);
       digits = s .digits;
-      m = s .m + b;
+      m = counted b (s .m);
       shown = shownNumber (connects shown) shown;
       stage = next;
     }

@@ -3,8 +3,8 @@ use keys::Digits;
 use stage::Stage;
 use stage::StageState;
 ghost use mathlib.Core.Path.{_≡_};
-ghost use Prim.Native.Nat.{_+_, _≤_, _<_, _^_};
-ghost use lib.ListN.{length};
+ghost use Prim.Native.Nat.{_≤_};
+ghost use lib.ListN.{length, take};
 ghost use Rattle.schedule.specs.Length.{total};
 ghost use Rattle.schedule.specs.Bounds.{TotalBounds};
 ghost use Rattle.passage.specs.Overture.{HasLength};
@@ -105,6 +105,17 @@ fn quiet_in(state: SessionState) -> Session
     }
 }
 
+// How many digits are held: a count beyond the array is that of the whole array.
+fn held_count(digits: Digits) -> usize
+    ensures { λ r. ⌜ (r ≤ 76) × (take r (digits .keys) ≡ take (digits .len) (digits .keys)) ⌝ }
+{
+    let len = digits.len;
+    if len > 76 {
+        return 76;
+    }
+    len
+}
+
 impl Session {
     pub fn new() -> Session
         ensures { λ r. ⌜ r ≡ idle ⌝ }
@@ -145,13 +156,12 @@ impl Session {
     }
 
     // The session after a fill in Dialling, whose shown stage and next state are given.
-    fn showing(self, shown: Stage, b: u32, next: StageState) -> Session
-        requires { ⌜ self .m + b < 2 ^ 32 ⌝ }
+    fn showing(self, shown: Stage, b: usize, next: StageState) -> Session
         ensures { λ r. ⌜ r ≡ showing self shown b next ⌝ }
     {
         let digits = self.digits;
         let number = shown.number();
-        let m = self.m + b;
+        let m = runs::saturating_add(self.m, b);
         if number == 10 {
             return Session {
                 state: SessionState::Connected,
@@ -172,16 +182,15 @@ impl Session {
 
     // A fill in Dialling: the overture's next samples.
     fn perform(self, rate: u32, out: &mut [f32]) -> Session
-        requires { ⌜ (length (now out) ≤ 65536) × (self .m ≤ 5000000) × (self .digits .len ≤ 76) ⌝ }
         ensures { λ r. ⌜ r ≡ filledIn Dialling self (length (now (out .entry))) rate ⌝ }
         ensures { λ _. ⌜ now (out .exit) ≡ writtenIn Dialling self (length (now (out .entry))) rate ⌝ }
     {
         let digits = self.digits;
         let keys = digits.keys;
-        let len = digits.len;
+        let len = held_count(digits);
         let stage = self.stage;
         let from: usize = 0;
-        let b = out.len() as u32;
+        let b = out.len();
         let w = overture::read(stage, &keys[from..len], rate, out);
         let shown = w.stage;
         let next = w.state;
@@ -190,7 +199,6 @@ impl Session {
 
     // A fill. In Connected, which 01 declines before it comes here, it writes zeros.
     pub fn process_out(self, rate: u32, out: &mut [f32]) -> Session
-        requires { ⌜ (length (now out) ≤ 65536) × (self .m ≤ 5000000) × (self .digits .len ≤ 76) ⌝ }
         ensures { λ r. ⌜ r ≡ filled self (length (now (out .entry))) rate ⌝ }
         ensures { λ _. ⌜ now (out .exit) ≡ written self (length (now (out .entry))) rate ⌝ }
     {

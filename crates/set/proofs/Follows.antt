@@ -1,15 +1,15 @@
--- What a book follows of a set, and that each call, by its definition, takes such a set to one of which the book's next entry follows the same. By
--- cases of the causes, the control and the state. A field that is not named here is no part of it. Assumes nothing.
+-- A set that follows a book, and that each call, by its definition, takes it to one that follows the book's next entry. By cases of the cause, the
+-- control and the state. A field that is not named here is no part of it. Assumes nothing.
 use Prim.Native.Nat.{ℕ, zero, suc, _+_, _≤_, zero-le}
 use native.Mathlib.Nat.{add-suc}
 use native.Mathlib.Omega.{arith}
 use mathlib.Core.Path.{_≡_, refl, sym, ap, _∙_}
-use mathlib.Core.Bool.{Bool, true, false}
+use mathlib.Core.Bool.{Bool, true, false, true≢false}
 use mathlib.Core.List.{List, []}
 use lib.Dec.{leb, ltb, eqb}
 use lib.Ieee.{Float}
 use lib.ListN.{length}
-use borrow.Author.Tests.{ltb-false, eqb-false}
+use borrow.Author.Tests.{ltb-false, eqb-true, eqb-false}
 use Rattle.keys.specs.Keys.{held, digitsOf}
 use Rattle.keys.proofs.Line.{digits-whole, padded-front}
 use Rattle.stage.specs.declared.Stage.{Stage}
@@ -17,6 +17,8 @@ use Rattle.stage.specs.declared.Stage.the-variants as stage
 use Rattle.stage.specs.declared.StageState.{StageState}
 use Rattle.stage.specs.declared.StageState.the-variants as at
 use Rattle.stage.specs.Stage.{stageOf, stageNumber}
+use Rattle.runs.specs.Runs.{counted}
+use Rattle.runs.proofs.Counted.{counted-is}
 use Rattle.overture.specs.Iteration.{fresh, after, samples, shownAfter}
 use Rattle.overture.proofs.Iteration.{after-add}
 use Rattle.soundness.proofs.States.{sound-parts}
@@ -25,7 +27,7 @@ use Rattle.at.specs.declared.AtProcessor.{AtProcessor}
 use Rattle.at.specs.declared.Control.{Control}
 use Rattle.at.specs.declared.Control.the-variants.{Nothing, Dial, Answer, Hangup}
 use Rattle.at.specs.Processor as processor
-use Rattle.at.specs.At.{typedByte, afterAtdt, lapse, forcedData, lineFull}
+use Rattle.at.specs.At.{typedByte, lapse, forcedData, lineFull}
 use Rattle.at.proofs.Sound.{sound-typed, sound-lapse, sound-forced}
 use Rattle.session.specs.declared.SessionState.{SessionState}
 use Rattle.session.specs.declared.SessionState.the-variants.{Idle, Dialling, Answering, Connected}
@@ -33,13 +35,14 @@ use Rattle.session.specs.Session as session
 use Rattle.session.specs.Session.{stateNumber, idle, answering, dialling, digitsHeld, connects, shownState, shownNumber, showing, filled, written}
 use Rattle.set.specs.declared.Set.{Set}
 use Rattle.set.specs.declared.Refusal.{Refusal}
-use Rattle.set.specs.Refusals.{refusalNumber}
+use Rattle.set.specs.declared.Refusal.the-variants.{Accepted}
+use Rattle.set.specs.Refusals.{refusalNumber, causeOfTyping, causeOfFill, accepted, either, ifAccepted}
 use Rattle.set.specs.Sound.{sound}
 use Rattle.control.specs.Control.{heardIn, heard, controlled}
-use Rattle.set.specs.Set.{moved, typedIf, typed, lapsed, forced, isUp, fillIf, fill, bufferIf, buffer}
-use Rattle.set.specs.Book.{typing, time, forcing, filling, Book, stageOfSample, typingRefusal, fillRefusal, fedBy, lapsedBy, applied, shownBy, stateIf, shownIf, afterFill, filledIn, Entry, declined, asks, fills, unlessDeclined, entryOf, numberOf, nextBook}
+use Rattle.set.specs.Set.{moved, typingCause, byteTaken, typed, lapseCause, lapsed, forcedCause, forced, isUpIn, isUp, fillCause, fill, buffer}
+use Rattle.set.specs.Book.{typing, time, forcing, filling, Book, stageOfSample, fedBy, lapsedBy, applied, shownBy, stateIf, shownIf, afterFill, filledIn, Entry, declined, asks, fills, unlessDeclined, entryOf, numberOf, nextBook}
 use Rattle.set.proofs.Ranges.{ranges, in-ranges}
-use Rattle.set.proofs.Soundness.{after-sound, few-typed, typing-sound, lapse-sound, forced-sound}
+use Rattle.set.proofs.Soundness.{after-sound, few-typed, byte-sound, time-sound, forced-sound}
 
 -- where nothing is dialled no samples are to come; else the state is `count` samples into the overture
 abbrev pub stageIn : SessionState → ℕ → List ℕ → ℕ → StageState
@@ -48,6 +51,7 @@ stageIn Answering r digits count = at.Connected
 stageIn Dialling r digits count = after count (fresh digits r) digits r
 stageIn Connected r digits count = after count (fresh digits r) digits r
 
+-- what the book fixes of a set
 pub record Follows (r : ℕ) (k : Book) (s : Set) : Type 0 where
   pub rate : s .rate ≡ r
   pub processor : s .processor ≡ k .processor
@@ -59,13 +63,13 @@ pub record Follows (r : ℕ) (k : Book) (s : Set) : Type 0 where
 
 -- a fill in Dialling writes the samples count + 1 to count + b
 abbrev pub Wrote : ℕ → Book → Entry → List Float → Type 0
-Wrote r k (declined number) left = Unit {0}
+Wrote r k (declined cause) left = Unit {0}
 Wrote r k (asks control line p) left = Unit {0}
 Wrote r k (fills b) left = k .state ≡ Dialling → left ≡ samples b (after (k .count) (fresh (k .digits) r) (k .digits) r) (k .digits) r
 
 -- a number that is not 6, a sound processor and a line that fits, or a buffer that is not too long
 abbrev pub InLimits : Entry → Type 0
-InLimits (declined number) = number ≡ 6 → ⊥
+InLimits (declined cause) = refusalNumber cause ≡ 6 → ⊥
 InLimits (asks control line p) = (length line ≤ 76) × (processor.sound p ≡ true)
 InLimits (fills b) = b ≤ 65536
 
@@ -77,7 +81,7 @@ pub record Effect (r : ℕ) (k : Book) (entry : Entry) (next : Set) (refusal : R
   pub limits : InLimits entry
   pub wrote : Wrote r k entry left
 
--- a sound set of which the book follows that, and of whose call a fill more can be counted
+-- a sound set that follows the book, and of whose call a fill more can be counted
 pub record Invariant (r : ℕ) (k : Book) (s : Set) : Type 0 where
   pub follows : Follows r k s
   pub sound : sound s ≡ true
@@ -111,57 +115,73 @@ module _ (r : ℕ) (k : Book) (s : Set) (f : Follows r k s) where
   unfolding heard
   same-lapse ns carrier = rw (f .processor, f .state)
 
+-- ---- by the cause: a declined call changes neither book nor set
+by-cause : (r : ℕ) (k : Book) (s : Set) → Invariant r k s → (cause : Refusal) (entry : Entry) (next : Set) (left : List Float)
+    → (refusalNumber cause ≡ 6 → ⊥)
+    → (accepted cause ≡ true → Effect r k entry next Accepted left)
+    → Effect r k (unlessDeclined cause entry) (ifAccepted cause next s) cause left
+unfolding accepted
+by-cause r k s inv cause entry next left never taken = go (eqb (refusalNumber cause) 0) refl
+  where
+    go : (t : Bool) → eqb (refusalNumber cause) 0 ≡ t → Effect r k (either t entry (declined cause)) (either t next s) cause left
+    go true e =
+        let q = taken e in
+        record { follows = q .follows; sound = q .sound; number = eqb-true _ 0 e ∙ q .number; limits = q .limits; wrote = q .wrote }
+    go false e = record { follows = inv .follows; sound = inv .sound; number = refl; limits = never; wrote = tt }
+
+typing-never-6 : (room full : Bool) → refusalNumber (causeOfTyping true room full) ≡ 6 → ⊥
+typing-never-6 false full e = omega arith
+typing-never-6 true true e = omega arith
+typing-never-6 true false e = omega arith
+
+fill-never-6 : (long up : Bool) → refusalNumber (causeOfFill true long up) ≡ 6 → ⊥
+fill-never-6 true up e = omega arith
+fill-never-6 false true e = omega arith
+fill-never-6 false false e = omega arith
+
 module _ (r : ℕ) (k : Book) (s : Set) (inv : Invariant r k s) where
   good : processor.sound (k .processor) ≡ true
   good = rw (inv .follows .processor) at (ranges s (inv .sound) .processor)
 
-  typing-by : (room full : Bool) (byte : ℕ) (carrier : Bool) (n : ℕ)
-      → let fed = fedBy k byte carrier n in
-      (sound (typedIf true room full s byte carrier n .set) ≡ true)
-      → Effect r k (unlessDeclined (typingRefusal room full) (asks (fed .control) (afterAtdt fed) (fed .processor)))
-      (typedIf true room full s byte carrier n .set) (typedIf true room full s byte carrier n .refusal) []
-  unfolding refusalNumber
-  typing-by false full byte carrier n next = record { follows = inv .follows; sound = next; number = refl; limits = λ six. omega arith; wrote = tt }
-  typing-by true true byte carrier n next = record { follows = inv .follows; sound = next; number = refl; limits = λ six. omega arith; wrote = tt }
-  typing-by true false byte carrier n next =
-      record {
-        follows = rw (same-fed r k s (inv .follows) byte carrier n) (applies r k s (inv .follows) (fedBy k byte carrier n .control) _ _ (few-typed (k .processor) good byte (heardIn (k .state) carrier) n));
-        sound = next;
-        number = refl;
-        limits = (few-typed (k .processor) good byte (heardIn (k .state) carrier) n, sound-typed (k .processor) byte (heardIn (k .state) carrier) n good);
-        wrote = tt;
-      }
-
   pub typing-effect : (byte : ℕ) (carrier : Bool) (n : ℕ)
       → Effect r k (entryOf k (typing byte carrier n)) (typed s byte carrier n .set) (typed s byte carrier n .refusal) []
-  unfolding typed entryOf
+  unfolding typed typingCause entryOf
   typing-effect byte carrier n =
       let full : lineFull (s .processor) byte ≡ lineFull (k .processor) byte = ap (λ (p : AtProcessor). lineFull p byte) (inv .follows .processor) in
+      let few = few-typed (k .processor) good byte (heardIn (k .state) carrier) n in
       rw (inv .sound, full)
-      (typing-by (leb 4 n) (lineFull (k .processor) byte) byte carrier n (rw (inv .sound, full) at (typing-sound s (inv .sound) byte carrier n)))
+      (by-cause r k s inv (causeOfTyping true (leb 4 n) (lineFull (k .processor) byte)) _ (byteTaken s byte carrier n) []
+      (typing-never-6 (leb 4 n) (lineFull (k .processor) byte))
+      (λ _. record {
+        follows = rw (same-fed r k s (inv .follows) byte carrier n) (applies r k s (inv .follows) (fedBy k byte carrier n .control) _ _ few);
+        sound = byte-sound s (inv .sound) byte carrier n;
+        number = refl;
+        limits = (few, sound-typed (k .processor) byte (heardIn (k .state) carrier) n good);
+        wrote = tt;
+      }))
 
   pub time-effect : (ns : ℕ) (carrier : Bool)
       → Effect r k (entryOf k (time ns carrier)) (lapsed s ns carrier .set) (lapsed s ns carrier .refusal) []
-  unfolding lapsed entryOf refusalNumber
+  unfolding lapsed lapseCause entryOf accepted
   time-effect ns carrier =
-      record {
-        follows = rw (inv .sound, same-lapse r k s (inv .follows) ns carrier) (applies r k s (inv .follows) (lapsedBy k ns carrier .control) [] _ zero-le);
-        sound = lapse-sound s (inv .sound) ns carrier;
-        number = rw (inv .sound);
+      rw (inv .sound) (record {
+        follows = rw (same-lapse r k s (inv .follows) ns carrier) (applies r k s (inv .follows) (lapsedBy k ns carrier .control) [] _ zero-le);
+        sound = time-sound s (inv .sound) ns carrier;
+        number = refl;
         limits = (zero-le, sound-lapse (k .processor) ns (heardIn (k .state) carrier) good);
         wrote = tt;
-      }
+      })
 
   pub forcing-effect : Effect r k (entryOf k forcing) (forced s .set) (forced s .refusal) []
-  unfolding forced entryOf refusalNumber controlled
+  unfolding forced forcedCause entryOf accepted controlled
   forcing-effect =
-      record {
-        follows = rw (inv .sound, ap forcedData (inv .follows .processor)) (applies r k s (inv .follows) Nothing [] (forcedData (k .processor)) zero-le);
+      rw (inv .sound) (record {
+        follows = rw (ap forcedData (inv .follows .processor)) (applies r k s (inv .follows) Nothing [] (forcedData (k .processor)) zero-le);
         sound = forced-sound s (inv .sound);
-        number = rw (inv .sound);
+        number = refl;
         limits = (zero-le, sound-forced (k .processor) good);
         wrote = tt;
-      }
+      })
 
 -- ---- a fill in Dialling
 shown-stage : (digits : List ℕ) (r count b : ℕ)
@@ -225,35 +245,35 @@ module _ (r : ℕ) (p : AtProcessor) (digits : List ℕ) (count shown : ℕ) (s 
     same-stage true = refl
     same-stage false = refl
 
-    filled-follows : (x : Stage) (st : StageState) → stageNumber x ≡ shownBy digits r count b → st ≡ after (count + b) (fresh digits r) digits r
+    within : b ≤ 65536 → counted b (s .session .m) ≡ count + b
+    within short = ap (counted b) (f .count) ∙ counted-is b count (omega (arith, inv .room refl))
+
+    filled-follows : b ≤ 65536 → (x : Stage) (st : StageState) → stageNumber x ≡ shownBy digits r count b → st ≡ after (count + b) (fresh digits r) digits r
         → Follows r (afterFill (eqb (shownBy digits r count b) 10) (shownBy digits r count b) (count + b) playing) (next x st)
     unfolding connects
-    filled-follows x st e g =
+    filled-follows short x st e g =
         record {
           rate = f .rate;
           processor = f .processor;
           state = rw (← e) (same-state (eqb (stageNumber x) 10));
           digits = f .digits;
-          count = ap (λ (n : ℕ). n + b) (f .count);
+          count = within short;
           shown = rw (← e) (same-shown (eqb (stageNumber x) 10) x);
           stage = g ∙ sym (same-stage (eqb (shownBy digits r count b) 10));
         }
 
-    filled-sound : (x : Stage) (st : StageState) → b ≤ 65536 → st ≡ after (count + b) (fresh digits r) digits r → sound (next x st) ≡ true
+    filled-sound : b ≤ 65536 → (x : Stage) (st : StageState) → st ≡ after (count + b) (fresh digits r) digits r → sound (next x st) ≡ true
     unfolding connects
-    filled-sound x st short g =
+    filled-sound short x st g =
         let q = ranges s (inv .sound) in
         let parts = sound-parts _ _ _ (q .state) in
         in-ranges _ (record {
           digits = q .digits;
           state = rw (g, held-digits, f .rate) (after-sound digits r (count + b) (fresh digits r) (first-sound _ digits r (rw (f .rate) at (parts .rate)) (rw held-digits at (parts .keys))) .1);
           processor = q .processor;
-          count = within (s .session .m) (f .count) (inv .room refl) short;
+          count = rw (within short) (omega (arith, inv .room refl));
           shown = shown-most (eqb (stageNumber x) 10) x refl;
         })
-      where
-        within : (m : ℕ) → m ≡ count → count + 65536 ≤ 5000000 → b ≤ 65536 → m + b ≤ 5000000
-        within m e l h = omega arith
 
 idle-differs : stateNumber Idle ≡ stateNumber Dialling → ⊥
 unfolding stateNumber
@@ -263,38 +283,39 @@ answering-differs : stateNumber Answering ≡ stateNumber Dialling → ⊥
 unfolding stateNumber
 answering-differs e = omega arith
 
-filling-by : (r : ℕ) (long : Bool) (p : AtProcessor) (state : SessionState) (digits : List ℕ) (count shown b : ℕ) (s : Set) (was : List Float) → length was ≡ b → ltb 65536 b ≡ long
+-- a fill that is accepted is not too long, and the line is not up
+filling-by : (r : ℕ) (p : AtProcessor) (state : SessionState) (digits : List ℕ) (count shown : ℕ) (s : Set) (b : ℕ) (long : Bool)
     → let book : Book = record { processor = p; state = state; digits = digits; count = count; shown = shown } in
-    Invariant r book s
-    → Effect r book (unlessDeclined (fillRefusal long state) (fills b)) (fillIf true long (isUp (s .session)) s b .set) (fillIf true long (isUp (s .session)) s b .refusal) (bufferIf true long (isUp (s .session)) s was)
-unfolding refusalNumber stateNumber filled written
-filling-by r true p state digits count shown b s was l e inv = record { follows = inv .follows; sound = inv .sound; number = refl; limits = λ six. omega arith; wrote = tt }
-filling-by r false p Connected digits count shown b s was l e inv =
-    let up : isUp (s .session) ≡ true = rw (inv .follows .state) in
-    rw up (record { follows = inv .follows; sound = inv .sound; number = refl; limits = λ six. omega arith; wrote = tt })
-filling-by r false p Idle digits count shown b s was l e inv =
-    let up : isUp (s .session) ≡ false = rw (inv .follows .state) in
+    Invariant r book s → ltb 65536 b ≡ long → accepted (causeOfFill true long (isUpIn state)) ≡ true
+    → Effect r book (fills b) (moved s (s .processor) (filled (s .session) b (s .rate))) Accepted (written (s .session) b (s .rate))
+unfolding accepted stateNumber filled written
+filling-by r p state digits count shown s b true inv e allowed = absurd (true≢false (sym allowed))
+filling-by r p Connected digits count shown s b false inv e allowed = absurd (true≢false (sym allowed))
+filling-by r p Idle digits count shown s b false inv e allowed =
     let same : filled (s .session) b (s .rate) ≡ s .session = ap (λ (st : SessionState). session.filledIn st (s .session) b (s .rate)) (inv .follows .state) in
-    rw (up, same) (record { follows = inv .follows; sound = inv .sound; number = refl; limits = ltb-false 65536 b e; wrote = λ (d : Idle ≡ Dialling). absurd (idle-differs (ap stateNumber d)) })
-filling-by r false p Answering digits count shown b s was l e inv =
-    let up : isUp (s .session) ≡ false = rw (inv .follows .state) in
+    rw same (record { follows = inv .follows; sound = inv .sound; number = refl; limits = ltb-false 65536 b e; wrote = λ (d : Idle ≡ Dialling). absurd (idle-differs (ap stateNumber d)) })
+filling-by r p Answering digits count shown s b false inv e allowed =
     let same : filled (s .session) b (s .rate) ≡ s .session = ap (λ (st : SessionState). session.filledIn st (s .session) b (s .rate)) (inv .follows .state) in
-    rw (up, same) (record { follows = inv .follows; sound = inv .sound; number = refl; limits = ltb-false 65536 b e; wrote = λ (d : Answering ≡ Dialling). absurd (answering-differs (ap stateNumber d)) })
-filling-by r false p Dialling digits count shown b s was l e inv =
-    let up : isUp (s .session) ≡ false = rw (inv .follows .state) in
+    rw same (record { follows = inv .follows; sound = inv .sound; number = refl; limits = ltb-false 65536 b e; wrote = λ (d : Answering ≡ Dialling). absurd (answering-differs (ap stateNumber d)) })
+filling-by r p Dialling digits count shown s b false inv e allowed =
     let same = ap (λ (st : SessionState). session.filledIn st (s .session) b (s .rate)) (inv .follows .state) in
-    let wrote = ap (λ (st : SessionState). session.writtenIn st (s .session) (length was) (s .rate)) (inv .follows .state) in
-    rw (up, same, wrote, l) (record {
-      follows = filled-follows r p digits count shown s inv b _ _ (shows r p digits count shown s inv b) (onward r p digits count shown s inv b);
-      sound = filled-sound r p digits count shown s inv b _ _ (ltb-false 65536 b e) (onward r p digits count shown s inv b);
+    let wrote = ap (λ (st : SessionState). session.writtenIn st (s .session) b (s .rate)) (inv .follows .state) in
+    let short = ltb-false 65536 b e in
+    rw (same, wrote) (record {
+      follows = filled-follows r p digits count shown s inv b short _ _ (shows r p digits count shown s inv b) (onward r p digits count shown s inv b);
+      sound = filled-sound r p digits count shown s inv b short _ _ (onward r p digits count shown s inv b);
       number = refl;
-      limits = ltb-false 65536 b e;
+      limits = short;
       wrote = λ (d : Dialling ≡ Dialling). writes r p digits count shown s inv b;
     })
 
 pub filling-effect : (r : ℕ) (k : Book) (s : Set) → Invariant r k s → (was : List Float)
     → Effect r k (entryOf k (filling (length was))) (fill s (length was) .set) (fill s (length was) .refusal) (buffer s was)
-unfolding fill buffer entryOf
+unfolding fill buffer fillCause entryOf
 filling-effect r k s inv was =
-    rw (inv .sound)
-    (filling-by r (ltb 65536 (length was)) (k .processor) (k .state) (k .digits) (k .count) (k .shown) (length was) s was refl refl inv)
+    let b = length was in
+    let up : isUp (s .session) ≡ isUpIn (k .state) = ap isUpIn (inv .follows .state) in
+    rw (inv .sound, up)
+    (by-cause r k s inv (causeOfFill true (ltb 65536 b) (isUpIn (k .state))) (fills b) _ _
+    (fill-never-6 (ltb 65536 b) (isUpIn (k .state)))
+    (λ allowed. rw allowed (filling-by r (k .processor) (k .state) (k .digits) (k .count) (k .shown) s b (ltb 65536 b) inv refl allowed)))

@@ -1,11 +1,10 @@
--- A typed byte, a lapse of time and forced data mode leave every sound set sound, whether calls can reach it or not; and so does a fill that
--- keeps the count within 5,000,000. By cases of the causes and of what the AT processor asks. Assumes nothing.
+-- A typed byte, a lapse of time and forced data mode leave every sound set sound, whether calls can reach it or not. By cases of what the AT
+-- processor asks. Assumes nothing.
 use Prim.Native.Nat.{ℕ, zero, suc, _≤_, zero-le}
 use native.Mathlib.Nat.{le-trans}
 use mathlib.Core.Path.{_≡_}
-use mathlib.Core.Bool.{Bool, true, false}
+use mathlib.Core.Bool.{Bool, true}
 use mathlib.Core.List.{List, []}
-use lib.Dec.{leb}
 use lib.ListN.{length}
 use borrow.Author.Tests.{le-leb}
 use Rattle.keys.specs.Keys.{allKeys, digitsOf}
@@ -21,14 +20,14 @@ use Rattle.at.specs.declared.AtProcessor.{AtProcessor}
 use Rattle.at.specs.declared.Control.{Control}
 use Rattle.at.specs.declared.Control.the-variants.{Nothing, Dial, Answer, Hangup}
 use Rattle.at.specs.Processor as processor
-use Rattle.at.specs.At.{typedByte, afterAtdt, lineFull}
+use Rattle.at.specs.At.{typedByte, afterAtdt, forcedData}
 use Rattle.at.proofs.Lines.{few-after}
-use Rattle.at.proofs.Sound.{sound-typed, sound-lapse, sound-forced}
+use Rattle.at.proofs.Sound.{sound-fresh, sound-typed, sound-lapse, sound-forced}
 use Rattle.session.specs.Session.{idle, answering, dialling}
 use Rattle.control.specs.Control.{heard, controlled}
 use Rattle.set.specs.declared.Set.{Set}
 use Rattle.set.specs.Sound.{sound}
-use Rattle.set.specs.Set.{moved, typedIf, typed, lapsed, forced}
+use Rattle.set.specs.Set.{freshSet, moved, byteTaken, timeTaken}
 use Rattle.set.proofs.Ranges.{ranges, in-ranges}
 
 -- however many samples a fill writes, the state of the stage stays sound
@@ -44,6 +43,10 @@ few-typed p good byte carrier room = few-after p byte carrier room good
 pub dialled-ok : (line : List ℕ) → length line ≤ 76 → digitsOk (digitsOf line) ≡ true
 unfolding digitsOk
 dialled-ok line short = rw (le-leb _ _ (le-trans (digits-fewer line) short), all-digits line)
+
+pub fresh-sound : (r : ℕ) → rateOk r ≡ true → sound (freshSet r) ≡ true
+unfolding idle sound soundState stateOk digitsOk allKeys
+fresh-sound r ok = rw (ok, sound-fresh)
 
 module _ (s : Set) (ok : sound s ≡ true) where
   rate-ok : rateOk (s .rate) ≡ true
@@ -68,22 +71,15 @@ module _ (s : Set) (ok : sound s ≡ true) where
         shown = zero-le;
       })
 
-  typing-by : (room full : Bool) (byte : ℕ) (carrier : Bool) (n : ℕ) → sound (typedIf true room full s byte carrier n .set) ≡ true
-  typing-by false full byte carrier n = ok
-  typing-by true true byte carrier n = ok
-  typing-by true false byte carrier n =
+  pub byte-sound : (byte : ℕ) (carrier : Bool) (n : ℕ) → sound (byteTaken s byte carrier n) ≡ true
+  byte-sound byte carrier n =
       control-sound _ _ _
       (few-typed (s .processor) (ranges s ok .processor) byte (heard (s .session) carrier) n)
       (sound-typed (s .processor) byte (heard (s .session) carrier) n (ranges s ok .processor))
 
-  pub typing-sound : (byte : ℕ) (carrier : Bool) (n : ℕ) → sound (typed s byte carrier n .set) ≡ true
-  unfolding typed
-  typing-sound byte carrier n = rw ok (typing-by (leb 4 n) (lineFull (s .processor) byte) byte carrier n)
+  pub time-sound : (ns : ℕ) (carrier : Bool) → sound (timeTaken s ns carrier) ≡ true
+  time-sound ns carrier = control-sound _ [] _ zero-le (sound-lapse (s .processor) ns (heard (s .session) carrier) (ranges s ok .processor))
 
-  pub lapse-sound : (ns : ℕ) (carrier : Bool) → sound (lapsed s ns carrier .set) ≡ true
-  unfolding lapsed
-  lapse-sound ns carrier = rw ok (control-sound _ [] _ zero-le (sound-lapse (s .processor) ns (heard (s .session) carrier) (ranges s ok .processor)))
-
-  pub forced-sound : sound (forced s .set) ≡ true
-  unfolding forced controlled
-  forced-sound = rw ok (control-sound Nothing [] _ zero-le (sound-forced (s .processor) (ranges s ok .processor)))
+  pub forced-sound : sound (moved s (forcedData (s .processor)) (s .session)) ≡ true
+  unfolding controlled
+  forced-sound = control-sound Nothing [] _ zero-le (sound-forced (s .processor) (ranges s ok .processor))

@@ -19,6 +19,9 @@ use Rattle.at.specs.At.{typedByte, afterAtdt, lapse, forcedData, lineFull}
 use Rattle.session.specs.declared.SessionState.{SessionState}
 use Rattle.session.specs.declared.SessionState.the-variants.{Idle, Dialling, Answering, Connected}
 use Rattle.control.specs.Control.{heardIn}
+use Rattle.set.specs.declared.Refusal.{Refusal}
+use Rattle.set.specs.Refusals.{refusalNumber, causeOfTyping, causeOfFill, ifAccepted}
+use Rattle.set.specs.Set.{isUpIn}
 
 -- for typing, byte, carrier flag and outbox length; for time, nanoseconds and carrier flag; for a fill, buffer length; for forced data, none
 pub data Call : Type 0 where
@@ -48,19 +51,6 @@ lengthOf digits r = total r (length digits)
 unfoldable pub stageOfSample : List ℕ → ℕ → ℕ → ℕ
 stageOfSample digits r zero = 0
 stageOfSample digits r (suc i) = stageNumber (stageOf (iteration.after i (iteration.fresh digits r) digits r))
-
--- ---- which calls are declined: 2, 4; 3, 5; 0 for none
-abbrev pub typingRefusal : (room full : Bool) → ℕ
-typingRefusal false full = 2
-typingRefusal true true = 4
-typingRefusal true false = 0
-
-abbrev pub fillRefusal : (long : Bool) → SessionState → ℕ
-fillRefusal true state = 3
-fillRefusal false Connected = 5
-fillRefusal false Idle = 0
-fillRefusal false Dialling = 0
-fillRefusal false Answering = 0
 
 -- ---- typing, time and forced data step its AT processor
 abbrev pub fedBy : Book → ℕ → Bool → ℕ → Fed
@@ -103,33 +93,34 @@ filledIn Idle r k b = k
 filledIn Answering r k b = k
 filledIn Connected r k b = k
 
--- ---- what a call comes to in the book: it is declined with a number; the AT processor steps and asks for something; or samples are filled
+-- ---- what a call comes to in the book: it is declined; the AT processor steps and asks for something; or samples are filled
 pub data Entry : Type 0 where
-  declined : (number : ℕ) → Entry
+  declined : (cause : Refusal) → Entry
   asks : (control : Control) (line : List ℕ) (p : AtProcessor) → Entry
   fills : (b : ℕ) → Entry
 
-abbrev pub unlessDeclined : ℕ → Entry → Entry
-unlessDeclined zero entry = entry
-unlessDeclined (suc number) entry = declined (suc number)
+abbrev pub unlessDeclined : Refusal → Entry → Entry
+unlessDeclined cause entry = ifAccepted cause entry (declined cause)
+
+-- by the causes of 01's table, but that 6 cannot come
 
 unfoldable pub entryOf : Book → Call → Entry
 entryOf k (typing byte carrier room) =
     let fed = fedBy k byte carrier room in
-    unlessDeclined (typingRefusal (leb 4 room) (lineFull (k .processor) byte)) (asks (fed .control) (afterAtdt fed) (fed .processor))
+    unlessDeclined (causeOfTyping true (leb 4 room) (lineFull (k .processor) byte)) (asks (fed .control) (afterAtdt fed) (fed .processor))
 entryOf k (time ns carrier) = asks (lapsedBy k ns carrier .control) [] (lapsedBy k ns carrier .processor)
 entryOf k forcing = asks Nothing [] (forcedData (k .processor))
-entryOf k (filling b) = unlessDeclined (fillRefusal (ltb 65536 b) (k .state)) (fills b)
+entryOf k (filling b) = unlessDeclined (causeOfFill true (ltb 65536 b) (isUpIn (k .state))) (fills b)
 
 -- the number that it is declined with; 0 for none
 abbrev pub numberOf : Entry → ℕ
-numberOf (declined number) = number
+numberOf (declined cause) = refusalNumber cause
 numberOf (asks control line p) = 0
 numberOf (fills b) = 0
 
 -- a call declined with 2, 3, 4 or 5 changes nothing in the book
 abbrev pub nextBook : ℕ → Book → Entry → Book
-nextBook r k (declined number) = k
+nextBook r k (declined cause) = k
 nextBook r k (asks control line p) = applied control line p k
 nextBook r k (fills b) = filledIn (k .state) r k b
 

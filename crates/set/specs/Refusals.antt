@@ -1,9 +1,12 @@
--- 01, "When a call is declined": the numbers of the causes; 0 for none.
+-- 01, "When a call is declined": its table. The causes of each call in the order in which they are checked, and their numbers; 0 for none.
 use Prim.Native.Nat.{ℕ}
+use mathlib.Core.Path.{_≡_}
+use mathlib.Core.Bool.{Bool, true, false}
+use lib.Dec.{eqb}
 use Rattle.set.specs.declared.Refusal.{Refusal}
-use Rattle.set.specs.declared.Refusal.the-variants.{Accepted, Rate, Outbox, Length, LineFull, Connected, Unsound, Position}
+use Rattle.set.specs.declared.Refusal.the-variants.{Accepted, Rate, Outbox, Length, LineFull, Connected, Unsound}
 
-unfoldable pub refusalNumber : Refusal → ℕ
+abbrev pub refusalNumber : Refusal → ℕ
 refusalNumber Accepted = 0
 refusalNumber Rate = 1
 refusalNumber Outbox = 2
@@ -11,4 +14,41 @@ refusalNumber Length = 3
 refusalNumber LineFull = 4
 refusalNumber Connected = 5
 refusalNumber Unsound = 6
-refusalNumber Position = 7
+
+-- creation: 1
+abbrev pub causeOfCreation : (limits : Bool) → Refusal
+causeOfCreation false = Rate
+causeOfCreation true = Accepted
+
+-- a call with no cause but the set: 6
+abbrev pub causeOfSound : (ok : Bool) → Refusal
+causeOfSound false = Unsound
+causeOfSound true = Accepted
+
+-- a typed byte: 6, 2, 4
+abbrev pub causeOfTyping : (ok room full : Bool) → Refusal
+causeOfTyping false room full = Unsound
+causeOfTyping true false full = Outbox
+causeOfTyping true true true = LineFull
+causeOfTyping true true false = Accepted
+
+-- a fill: 6, 3, 5
+abbrev pub causeOfFill : (ok long up : Bool) → Refusal
+causeOfFill false long up = Unsound
+causeOfFill true true up = Length
+causeOfFill true false true = Connected
+causeOfFill true false false = Accepted
+
+-- a call goes by whether it is accepted: it comes to something, or all is as it was
+abbrev pub Declined : Refusal → Type 0
+Declined cause = refusalNumber cause ≡ 0 → ⊥
+
+unfoldable pub accepted : Refusal → Bool
+accepted cause = eqb (refusalNumber cause) 0
+
+abbrev pub either : {X : Type 0} → Bool → X → X → X
+either true next was = next
+either false next was = was
+
+abbrev pub ifAccepted : {X : Type 0} → Refusal → X → X → X
+ifAccepted cause next was = either (accepted cause) next was

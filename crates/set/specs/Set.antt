@@ -1,7 +1,7 @@
--- 01, "The set" and "When a call is declined": the public calls. Causes are checked in 01's order. A declined call has no reply, sends 0
--- bytes, and leaves the set and what is lent to it as they were.
+-- 01, "The set" and "When a call is declined": the public calls. Each has its cause; a declined call has no reply, sends 0 bytes, and leaves the
+-- set and what is lent to it as they were.
 use Prim.Native.Nat.{ℕ}
-use mathlib.Core.Bool.{Bool, true, false}
+use mathlib.Core.Bool.{Bool}
 use mathlib.Core.List.{List, []}
 use lib.Dec.{leb, ltb, eqb}
 use lib.ListN.{length}
@@ -9,16 +9,14 @@ use lib.Ieee.{Float}
 use Rattle.ascii.specs.Front.{put}
 use Rattle.reply.specs.declared.Reply.the-variants as reply
 use Rattle.at.specs.declared.AtProcessor.{AtProcessor}
-use Rattle.at.specs.declared.Outcome.{Outcome}
-use Rattle.at.specs.declared.Fed.{Fed}
 use Rattle.at.specs.Processor.{fresh}
 use Rattle.at.specs.At.{typedByte, sent, afterAtdt, lapse, forcedData, lineFull}
 use Rattle.session.specs.declared.Session.{Session}
+use Rattle.session.specs.declared.SessionState.{SessionState}
 use Rattle.session.specs.Session.{stateNumber, idle, filled, written, ringNumber}
 use Rattle.control.specs.Control.{heard, controlled}
 use Rattle.soundness.specs.Sound.{rateOk}
 use Rattle.set.specs.declared.Refusal.{Refusal}
-use Rattle.set.specs.declared.Refusal.the-variants.{Accepted, Rate, Outbox, Length, LineFull, Connected, Unsound}
 use Rattle.set.specs.declared.Set.{Set}
 use Rattle.set.specs.declared.Made.{Made}
 use Rattle.set.specs.declared.Typed.{Typed}
@@ -27,6 +25,7 @@ use Rattle.set.specs.declared.Forced.{Forced}
 use Rattle.set.specs.declared.Filled.{Filled}
 use Rattle.set.specs.declared.Rung.{Rung}
 use Rattle.set.specs.Sound.{sound}
+use Rattle.set.specs.Refusals.{causeOfCreation, causeOfSound, causeOfTyping, causeOfFill, ifAccepted}
 
 -- a fresh set: Idle, with the fresh AT processor
 abbrev pub freshSet : ℕ → Set
@@ -36,100 +35,81 @@ freshSet r = record { rate = r; processor = fresh; session = idle }
 abbrev pub moved : Set → AtProcessor → Session → Set
 moved s processor session = record { rate = s .rate; processor = processor; session = session }
 
--- creation: a rate outside limits gives 1 and a fresh set at 8,000
-abbrev pub madeIf : Bool → ℕ → Made
-madeIf true r = record { set = freshSet r; refusal = Accepted }
-madeIf false r = record { set = freshSet 8000; refusal = Rate }
+-- creation: a rate outside limits gives a fresh set at 8,000
+unfoldable pub creationCause : ℕ → Refusal
+creationCause r = causeOfCreation (rateOk r)
 
 unfoldable pub made : ℕ → Made
-made r = madeIf (rateOk r) r
+made r = record { set = freshSet (ifAccepted (creationCause r) r 8000); refusal = creationCause r }
 
--- a typed byte: 6, 2, 4
-abbrev pub byteDeclined : Refusal → Set → Typed
-byteDeclined cause s = record { set = s; refusal = cause; reply = reply.None; sent = 0 }
+-- a typed byte: of the set, the byte, the carrier flag, and the outbox's length, 4 bytes at least
+unfoldable pub typingCause : Set → ℕ → ℕ → Refusal
+typingCause s byte n = causeOfTyping (sound s) (leb 4 n) (lineFull (s .processor) byte)
 
-abbrev pub byteTaken : Set → Fed → Typed
-byteTaken s fed =
-    record {
-      set = moved s (fed .processor) (controlled (fed .control) (s .session) (afterAtdt fed) (s .rate));
-      refusal = Accepted;
-      reply = fed .reply;
-      sent = fed .sent;
-    }
+abbrev pub byteTaken : Set → ℕ → Bool → ℕ → Set
+byteTaken s byte carrier n =
+    let fed = typedByte (s .processor) byte (heard (s .session) carrier) n in
+    moved s (fed .processor) (controlled (fed .control) (s .session) (afterAtdt fed) (s .rate))
 
--- sound; an outbox of 4 bytes; a full line
-abbrev pub typedIf : Bool → Bool → Bool → Set → ℕ → Bool → ℕ → Typed
-typedIf false room full s byte carrier n = byteDeclined Unsound s
-typedIf true false full s byte carrier n = byteDeclined Outbox s
-typedIf true true true s byte carrier n = byteDeclined LineFull s
-typedIf true true false s byte carrier n = byteTaken s (typedByte (s .processor) byte (heard (s .session) carrier) n)
-
--- of the set, the byte, the carrier flag, and the outbox's length
 unfoldable pub typed : Set → ℕ → Bool → ℕ → Typed
-typed s byte carrier n = typedIf (sound s) (leb 4 n) (lineFull (s .processor) byte) s byte carrier n
+typed s byte carrier n =
+    let cause = typingCause s byte n in
+    let fed = typedByte (s .processor) byte (heard (s .session) carrier) n in
+    record {
+      set = ifAccepted cause (byteTaken s byte carrier n) s;
+      refusal = cause;
+      reply = ifAccepted cause (fed .reply) reply.None;
+      sent = ifAccepted cause (fed .sent) 0;
+    }
 
 -- the outbox: the bytes sent at its front, later ones as they were
-abbrev pub outboxIf : Bool → Bool → Bool → Set → ℕ → List ℕ → List ℕ
-outboxIf false room full s byte was = was
-outboxIf true false full s byte was = was
-outboxIf true true true s byte was = was
-outboxIf true true false s byte was = put (sent (s .processor) byte) was
-
 unfoldable pub outbox : Set → ℕ → List ℕ → List ℕ
-outbox s byte was = outboxIf (sound s) (leb 4 (length was)) (lineFull (s .processor) byte) s byte was
+outbox s byte was = ifAccepted (typingCause s byte (length was)) (put (sent (s .processor) byte) was) was
 
--- a lapse of time: 6
-abbrev pub lapseTaken : Set → Outcome → Lapsed
-lapseTaken s o =
-    record {
-      set = moved s (o .processor) (controlled (o .control) (s .session) [] (s .rate));
-      refusal = Accepted;
-      reply = o .reply;
-    }
+-- a lapse of time
+unfoldable pub lapseCause : Set → Refusal
+lapseCause s = causeOfSound (sound s)
 
-abbrev pub lapsedIf : Bool → Set → ℕ → Bool → Lapsed
-lapsedIf false s ns carrier = record { set = s; refusal = Unsound; reply = reply.None }
-lapsedIf true s ns carrier = lapseTaken s (lapse (s .processor) ns (heard (s .session) carrier))
+abbrev pub timeTaken : Set → ℕ → Bool → Set
+timeTaken s ns carrier =
+    let o = lapse (s .processor) ns (heard (s .session) carrier) in
+    moved s (o .processor) (controlled (o .control) (s .session) [] (s .rate))
 
 unfoldable pub lapsed : Set → ℕ → Bool → Lapsed
-lapsed s ns carrier = lapsedIf (sound s) s ns carrier
+lapsed s ns carrier =
+    let cause = lapseCause s in
+    record {
+      set = ifAccepted cause (timeTaken s ns carrier) s;
+      refusal = cause;
+      reply = ifAccepted cause (lapse (s .processor) ns (heard (s .session) carrier) .reply) reply.None;
+    }
 
--- forced data mode: 6
-abbrev pub forcedIf : Bool → Set → Forced
-forcedIf false s = record { set = s; refusal = Unsound }
-forcedIf true s = record { set = moved s (forcedData (s .processor)) (s .session); refusal = Accepted }
+-- forced data mode
+unfoldable pub forcedCause : Set → Refusal
+forcedCause s = causeOfSound (sound s)
 
 unfoldable pub forced : Set → Forced
-forced s = forcedIf (sound s) s
+forced s = record { set = ifAccepted (forcedCause s) (moved s (forcedData (s .processor)) (s .session)) s; refusal = forcedCause s }
 
--- a fill: 6, 3, 5. Sound; over 65,536 samples; in Connected.
-abbrev pub fillIf : Bool → Bool → Bool → Set → ℕ → Filled
-fillIf false long up s b = record { set = s; refusal = Unsound }
-fillIf true true up s b = record { set = s; refusal = Length }
-fillIf true false true s b = record { set = s; refusal = Connected }
-fillIf true false false s b = record { set = moved s (s .processor) (filled (s .session) b (s .rate)); refusal = Accepted }
+-- a fill: of the set and the buffer's length, at most 65,536; state 3 is the line up
+abbrev pub isUpIn : SessionState → Bool
+isUpIn state = eqb (stateNumber state) 3
 
--- whether the line is up: state 3
 abbrev pub isUp : Session → Bool
-isUp s = eqb (stateNumber (s .state)) 3
+isUp s = isUpIn (s .state)
 
--- of the set and the buffer's length
+unfoldable pub fillCause : Set → ℕ → Refusal
+fillCause s b = causeOfFill (sound s) (ltb 65536 b) (isUp (s .session))
+
 unfoldable pub fill : Set → ℕ → Filled
-fill s b = fillIf (sound s) (ltb 65536 b) (isUp (s .session)) s b
-
-abbrev pub bufferIf : Bool → Bool → Bool → Set → List Float → List Float
-bufferIf false long up s was = was
-bufferIf true true up s was = was
-bufferIf true false true s was = was
-bufferIf true false false s was = written (s .session) (length was) (s .rate)
+fill s b = record { set = ifAccepted (fillCause s b) (moved s (s .processor) (filled (s .session) b (s .rate))) s; refusal = fillCause s b }
 
 unfoldable pub buffer : Set → List Float → List Float
-buffer s was = bufferIf (sound s) (ltb 65536 (length was)) (isUp (s .session)) s was
+buffer s was = ifAccepted (fillCause s (length was)) (written (s .session) (length was) (s .rate)) was
 
--- the ring reported: it is worked out, so the set is checked: 6
-abbrev pub rungIf : Bool → Set → Rung
-rungIf false s = record { refusal = Unsound; ring = 0 }
-rungIf true s = record { refusal = Accepted; ring = ringNumber (s .session) }
+-- the ring reported: it is worked out, so the set is checked
+unfoldable pub ringCause : Set → Refusal
+ringCause s = causeOfSound (sound s)
 
 unfoldable pub rung : Set → Rung
-rung s = rungIf (sound s) s
+rung s = record { refusal = ringCause s; ring = ifAccepted (ringCause s) (ringNumber (s .session)) 0 }

@@ -7,19 +7,15 @@ use reply::Reply;
 use session::Session;
 use session::SessionState;
 ghost use mathlib.Core.Path.{_≡_};
-ghost use mathlib.Core.Bool.{true};
-ghost use lib.Dec.{leb, ltb};
-ghost use Prim.Native.Nat.{_<_};
 ghost use lib.ListN.{length};
-ghost use Rattle.ascii.specs.Front.{put};
 ghost use Rattle.at.specs.Processor.{commandMode};
-ghost use Rattle.at.specs.At.{typedByte, sent, lapse, lineFull};
-ghost use Rattle.set.specs.Refusals.{refusalNumber};
+ghost use Rattle.set.specs.Refusals.{refusalNumber, causeOfSound, accepted};
 ghost use Rattle.set.specs.Sound.{sound};
-ghost use Rattle.control.specs.Control.{heard};
-ghost use Rattle.set.specs.Set.{freshSet, made, byteDeclined, byteTaken, typedIf, typed, outboxIf, outbox, lapseTaken, lapsed, forced, isUp, fillIf, fill, bufferIf, buffer, rung};
+ghost use Rattle.set.specs.Set.{freshSet, creationCause, made, typingCause, typed, outbox, lapsed, forced, fillCause, fill, buffer, rung};
 
-// The longest buffer that a fill takes.
+// The shortest outbox that a typed byte takes, and the longest buffer that a fill takes.
+const MIN_OUTBOX: usize = 4;
+
 const MAX_FILL: usize = 65536;
 
 const MAX_SAMPLES: u32 = 5_000_000;
@@ -33,7 +29,6 @@ pub enum Refusal {
     LineFull,
     Connected,
     Unsound,
-    Position,
 }
 
 pub struct Set {
@@ -89,8 +84,13 @@ impl Refusal {
             Refusal::LineFull => 4,
             Refusal::Connected => 5,
             Refusal::Unsound => 6,
-            Refusal::Position => 7,
         }
+    }
+
+    pub fn accepted(self) -> bool
+        ensures { λ r. ⌜ r ≡ accepted self ⌝ }
+    {
+        self.number() == 0
     }
 }
 
@@ -106,16 +106,14 @@ fn fresh(rate: u32) -> Set
     }
 }
 
-// The answer to a typed byte that is declined.
-fn declined(set: Set, refusal: Refusal) -> Typed
-    ensures { λ r. ⌜ r ≡ byteDeclined refusal set ⌝ }
+// Creation is declined outside the rate's limits.
+fn creation_cause(rate: u32) -> Refusal
+    ensures { λ r. ⌜ r ≡ creationCause rate ⌝ }
 {
-    Typed {
-        set,
-        refusal,
-        reply: Reply::None,
-        sent: 0,
+    if soundness::rate_ok(rate) {
+        return Refusal::Accepted;
     }
+    Refusal::Rate
 }
 
 impl Set {
@@ -123,18 +121,13 @@ impl Set {
     pub fn new(rate: u32) -> Made
         ensures { λ r. ⌜ r ≡ made rate ⌝ }
     {
-        if soundness::rate_ok(rate) {
+        let refusal = creation_cause(rate);
+        if refusal.accepted() {
             let set = fresh(rate);
-            return Made {
-                set,
-                refusal: Refusal::Accepted,
-            };
+            return Made { set, refusal };
         }
         let set = fresh(8000);
-        Made {
-            set,
-            refusal: Refusal::Rate,
-        }
+        Made { set, refusal }
     }
 
     // 01's list. Every call but the plain readers asks it first.
@@ -155,54 +148,65 @@ impl Set {
             & (processor.sound() & ((session.m <= MAX_SAMPLES) & (session.shown <= 9)))
     }
 
+    // The cause of a call that is declined for an unsound set alone.
+    fn sound_cause(self) -> Refusal
+        ensures { λ r. ⌜ r ≡ causeOfSound (sound self) ⌝ }
+    {
+        if self.sound() {
+            return Refusal::Accepted;
+        }
+        Refusal::Unsound
+    }
+
+    fn typing_cause(self, byte: u8, room: usize) -> Refusal
+        ensures { λ r. ⌜ r ≡ typingCause self byte room ⌝ }
+    {
+        let processor = self.processor;
+        if self.sound() {
+            if room < MIN_OUTBOX {
+                return Refusal::Outbox;
+            }
+            if processor.line_full(byte) {
+                return Refusal::LineFull;
+            }
+            return Refusal::Accepted;
+        }
+        Refusal::Unsound
+    }
+
     // One byte typed at the panel.
     pub fn feed(self, byte: u8, carrier: bool, out: &mut [u8]) -> Typed
         ensures { λ r. ⌜ r ≡ typed self byte carrier (length (now (out .entry))) ⌝ }
         ensures { λ _. ⌜ now (out .exit) ≡ outbox self byte (now (out .entry)) ⌝ }
     {
-        if self.sound() {
-            return self.feed_sound(byte, carrier, out);
-        }
-        declined(self, Refusal::Unsound)
-    }
-
-    fn feed_sound(self, byte: u8, carrier: bool, out: &mut [u8]) -> Typed
-        ensures { λ r. ⌜ r ≡ typedIf true (leb 4 (length (now (out .entry)))) (lineFull (self .processor) byte) self byte carrier (length (now (out .entry))) ⌝ }
-        ensures { λ _. ⌜ now (out .exit) ≡ outboxIf true (leb 4 (length (now (out .entry)))) (lineFull (self .processor) byte) self byte (now (out .entry)) ⌝ }
-    {
-        let processor = self.processor;
-        if out.len() < 4 {
-            return declined(self, Refusal::Outbox);
-        }
-        if processor.line_full(byte) {
-            return declined(self, Refusal::LineFull);
-        }
-        self.take_byte(byte, carrier, out)
-    }
-
-    fn take_byte(self, byte: u8, carrier: bool, out: &mut [u8]) -> Typed
-        ensures { λ r. ⌜ r ≡ byteTaken self (typedByte (self .processor) byte (heard (self .session) carrier) (length (now (out .entry)))) ⌝ }
-        ensures { λ _. ⌜ now (out .exit) ≡ put (sent (self .processor) byte) (now (out .entry)) ⌝ }
-    {
         let processor = self.processor;
         let session = self.session;
         let state = session.state;
-        let heard = control::heard_in(state, carrier);
-        let fed = processor.feed(byte, heard, out);
-        let next = fed.processor;
-        let reply = fed.reply;
-        let asked = fed.control;
-        let line = fed.line;
-        let moved = control::apply(asked, session, line, self.rate);
+        let refusal = self.typing_cause(byte, out.len());
+        if refusal.accepted() {
+            let heard = control::heard_in(state, carrier);
+            let fed = processor.feed(byte, heard, out);
+            let next = fed.processor;
+            let reply = fed.reply;
+            let asked = fed.control;
+            let line = fed.line;
+            let moved = control::apply(asked, session, line, self.rate);
+            return Typed {
+                set: Set {
+                    processor: next,
+                    session: moved,
+                    ..self
+                },
+                refusal,
+                reply,
+                sent: fed.sent,
+            };
+        }
         Typed {
-            set: Set {
-                rate: self.rate,
-                processor: next,
-                session: moved,
-            },
-            refusal: Refusal::Accepted,
-            reply,
-            sent: fed.sent,
+            set: self,
+            refusal,
+            reply: Reply::None,
+            sent: 0,
         }
     }
 
@@ -210,37 +214,32 @@ impl Set {
     pub fn advance_time(self, ns: u64, carrier: bool) -> Lapsed
         ensures { λ r. ⌜ r ≡ lapsed self ns carrier ⌝ }
     {
-        if self.sound() {
-            return self.take_time(ns, carrier);
-        }
-        Lapsed {
-            set: self,
-            refusal: Refusal::Unsound,
-            reply: Reply::None,
-        }
-    }
-
-    fn take_time(self, ns: u64, carrier: bool) -> Lapsed
-        ensures { λ r. ⌜ r ≡ lapseTaken self (lapse (self .processor) ns (heard (self .session) carrier)) ⌝ }
-    {
         let processor = self.processor;
         let session = self.session;
         let state = session.state;
-        let heard = control::heard_in(state, carrier);
-        let o = processor.advance_time(ns, heard);
-        let next = o.processor;
-        let reply = o.reply;
-        let asked = o.control;
-        let line = Line::new();
-        let moved = control::apply(asked, session, line, self.rate);
+        let refusal = self.sound_cause();
+        if refusal.accepted() {
+            let heard = control::heard_in(state, carrier);
+            let o = processor.advance_time(ns, heard);
+            let next = o.processor;
+            let reply = o.reply;
+            let asked = o.control;
+            let line = Line::new();
+            let moved = control::apply(asked, session, line, self.rate);
+            return Lapsed {
+                set: Set {
+                    processor: next,
+                    session: moved,
+                    ..self
+                },
+                refusal,
+                reply,
+            };
+        }
         Lapsed {
-            set: Set {
-                rate: self.rate,
-                processor: next,
-                session: moved,
-            },
-            refusal: Refusal::Accepted,
-            reply,
+            set: self,
+            refusal,
+            reply: Reply::None,
         }
     }
 
@@ -248,22 +247,35 @@ impl Set {
         ensures { λ r. ⌜ r ≡ forced self ⌝ }
     {
         let processor = self.processor;
-        let session = self.session;
-        if self.sound() {
+        let refusal = self.sound_cause();
+        if refusal.accepted() {
             let next = processor.force_data_mode();
             return Forced {
                 set: Set {
-                    rate: self.rate,
                     processor: next,
-                    session,
+                    ..self
                 },
-                refusal: Refusal::Accepted,
+                refusal,
             };
         }
-        Forced {
-            set: self,
-            refusal: Refusal::Unsound,
+        Forced { set: self, refusal }
+    }
+
+    fn fill_cause(self, b: usize) -> Refusal
+        ensures { λ r. ⌜ r ≡ fillCause self b ⌝ }
+    {
+        let session = self.session;
+        let state = session.state;
+        if self.sound() {
+            if b > MAX_FILL {
+                return Refusal::Length;
+            }
+            if state.number() == 3 {
+                return Refusal::Connected;
+            }
+            return Refusal::Accepted;
         }
+        Refusal::Unsound
     }
 
     // Fills the buffer with what the house hears next.
@@ -271,60 +283,31 @@ impl Set {
         ensures { λ r. ⌜ r ≡ fill self (length (now (out .entry))) ⌝ }
         ensures { λ _. ⌜ now (out .exit) ≡ buffer self (now (out .entry)) ⌝ }
     {
-        if self.sound() {
-            return self.fill_sound(out);
-        }
-        Filled {
-            set: self,
-            refusal: Refusal::Unsound,
-        }
-    }
-
-    fn fill_sound(self, out: &mut [f32]) -> Filled
-        requires { ⌜ sound self ≡ true ⌝ }
-        ensures { λ r. ⌜ r ≡ fillIf true (ltb 65536 (length (now (out .entry)))) (isUp (self .session)) self (length (now (out .entry))) ⌝ }
-        ensures { λ _. ⌜ now (out .exit) ≡ bufferIf true (ltb 65536 (length (now (out .entry)))) (isUp (self .session)) self (now (out .entry)) ⌝ }
-    {
         let session = self.session;
-        let processor = self.processor;
-        let state = session.state;
-        if out.len() > MAX_FILL {
+        let refusal = self.fill_cause(out.len());
+        if refusal.accepted() {
+            let next = session.process_out(self.rate, out);
             return Filled {
-                set: self,
-                refusal: Refusal::Length,
+                set: Set {
+                    session: next,
+                    ..self
+                },
+                refusal,
             };
         }
-        if state.number() == 3 {
-            return Filled {
-                set: self,
-                refusal: Refusal::Connected,
-            };
-        }
-        let next = session.process_out(self.rate, out);
-        Filled {
-            set: Set {
-                rate: self.rate,
-                processor,
-                session: next,
-            },
-            refusal: Refusal::Accepted,
-        }
+        Filled { set: self, refusal }
     }
 
     pub fn ring_number(self) -> Rung
         ensures { λ r. ⌜ r ≡ rung self ⌝ }
     {
         let session = self.session;
-        if self.sound() {
-            return Rung {
-                refusal: Refusal::Accepted,
-                ring: session.ring_number(),
-            };
+        let refusal = self.sound_cause();
+        if refusal.accepted() {
+            let ring = session.ring_number();
+            return Rung { refusal, ring };
         }
-        Rung {
-            refusal: Refusal::Unsound,
-            ring: 0,
-        }
+        Rung { refusal, ring: 0 }
     }
 
     // The plain readers.

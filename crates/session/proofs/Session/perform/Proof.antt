@@ -7,8 +7,8 @@ use borrow.Author.Needs.{needs}
 use Rattle.session.proofs.Session.perform.Statement.{statement}
 use Rattle.session.proofs.Session.perform.Tie as tie
 
-cast-b : tie.Need-cast-b
-cast-b c = search needs
+held-count-requires : tie.Need-held-count-requires
+held-count-requires c κs = search needs
 
 sub-read : tie.Need-sub-read
 sub-read c = search needs
@@ -18,8 +18,8 @@ part-read-start c = search needs
 
 part-read-end : tie.Need-part-read-end
 part-read-end c =
-    let h : length (c .before .before .before .before .args .self .digits .keys) ≡ 76 = search needs in
-    omega (arith, c .before .before .before .before .pre .2)
+    let h : length (c .before .before .before .before .before .args .self .digits .keys) ≡ 76 = search needs in
+    omega (arith, c .before .held-count .ensures .0)
 
 read-requires : tie.Need-read-requires
 read-requires c κs = search needs
@@ -32,14 +32,15 @@ same-length c = search needs
 
 returns : tie.Need-returns
 returns c =
+    let held = c .before .before .before .before .before .before .before .held-count .ensures .1 in
     let r = c .before .before .before .read .ensures in
-    (rw (c .showing .ensures, r .1 .1, r .1 .0, sub-zero), rw sub-zero at (r .0))
+    (rw (c .showing .ensures, r .1 .1, r .1 .0, sub-zero, held), rw (sub-zero, held) at (r .0))
 
 pub perform-spec : {M : Type 1} → statement M
 perform-spec =
     tie.close
     (tie.spec
-    cast-b
+    held-count-requires
     sub-read
     part-read-start
     part-read-end

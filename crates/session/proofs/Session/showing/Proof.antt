@@ -8,16 +8,16 @@ use Rattle.session.proofs.Session.showing.Tie as tie
 number-requires : tie.Need-number-requires
 number-requires c κs = search needs
 
-add-m : tie.Need-add-m
-add-m c = search needs
+saturating-add-requires : tie.Need-saturating-add-requires
+saturating-add-requires c κs = search needs
 
 returns : tie.Need-returns
 unfolding connects
-returns c = rw (← c .before .before .number .ensures, eq-eqb _ 10 (c .if1 .taken))
+returns c = rw (c .before .saturating-add .ensures, ← c .before .before .number .ensures, eq-eqb _ 10 (c .if1 .taken))
 
 returns-2 : tie.Need-returns-2
 unfolding connects
-returns-2 c = rw (← c .before .before .number .ensures, ne-eqb _ 10 (c .if1 .left), ← c .before .before .number .ensures)
+returns-2 c = rw (c .before .saturating-add .ensures, ← c .before .before .number .ensures, ne-eqb _ 10 (c .if1 .left), ← c .before .before .number .ensures)
 
 pub showing-spec : {M : Type 1} → statement M
-showing-spec = tie.close (tie.spec number-requires add-m returns returns-2)
+showing-spec = tie.close (tie.spec number-requires saturating-add-requires returns returns-2)

@@ -1,22 +1,40 @@
--- `Set::advance_time` meets its contract: by soundness. Assumes nothing.
-use Rattle.set.specs.Set.{lapsed}
+-- `Set::advance_time` meets its contract: by its cause, and by what the processor and the control ensure. Assumes nothing.
+use Rattle.control.specs.Control.{heard}
+use Rattle.set.specs.Set.{lapseCause, lapsed}
 use borrow.Author.Needs.{needs}
 use Rattle.set.proofs.Set.advance_time.Statement.{statement}
 use Rattle.set.proofs.Set.advance_time.Tie as tie
 
-sound-requires : tie.Need-sound-requires
-sound-requires c κs = search needs
+sound-cause-requires : tie.Need-sound-cause-requires
+sound-cause-requires c κs = search needs
 
-take-time-requires : tie.Need-take-time-requires
-take-time-requires c κs = search needs
+accepted-requires : tie.Need-accepted-requires
+accepted-requires c κs = search needs
+
+heard-in-requires : tie.Need-heard-in-requires
+heard-in-requires c κs = search needs
+
+advance-time-requires : tie.Need-advance-time-requires
+advance-time-requires c κs = search needs
+
+new-requires : tie.Need-new-requires
+new-requires c κs = search needs
+
+apply-requires : tie.Need-apply-requires
+apply-requires c κs = search needs
 
 returns : tie.Need-returns
-unfolding lapsed
-returns c = rw (← c .before .before .sound .ensures, c .before .if1 .taken) (c .take-time .ensures)
+unfolding lapsed lapseCause heard
+returns c =
+    let u = c .before .before .before .before .before .before .before .sound-cause .ensures in
+    let v = c .before .before .before .before .before .before .accepted .ensures in
+    let t = c .before .before .before .before .before .if1 .taken in
+    rw (← u, ← v, t, c .apply .ensures, c .before .new .ensures, c .before .before .before .advance-time .ensures, c .before .before .before .before .heard-in .ensures)
 
 returns-2 : tie.Need-returns-2
-unfolding lapsed
-returns-2 c = rw (← c .before .sound .ensures, c .if1 .left)
+unfolding lapsed lapseCause
+returns-2 c = rw (← c .before .before .sound-cause .ensures, ← c .before .accepted .ensures, c .if1 .left)
 
 pub advance-time-spec : {M : Type 1} → statement M
-advance-time-spec = tie.close (tie.spec sound-requires take-time-requires returns returns-2)
+advance-time-spec =
+    tie.close (tie.spec sound-cause-requires accepted-requires heard-in-requires advance-time-requires new-requires apply-requires returns returns-2)

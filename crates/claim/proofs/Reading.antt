@@ -1,0 +1,88 @@
+-- Demand 3 read off the claim, each part at its full strength, so that a claim that says less is refused here: of every call of a list what it
+-- answers, and at the list's end what came of the dial line. Assumes nothing.
+use Prim.Native.Nat.{ℕ, _+_, _<_}
+use mathlib.Core.Path.{_≡_}
+use mathlib.Core.Bool.{true}
+use mathlib.Core.List.{List, [], _∷_, _++_, map}
+use mathlib.Core.Logic.{_⊎_, _↔_}
+use lib.Ieee.{binary32, ofBits}
+use lib.ListN.{length, replicate}
+use Rattle.session.specs.declared.SessionState.the-variants.{Connected}
+use Rattle.schedule.specs.Bounds.{TotalBounds}
+use Rattle.passage.specs.Overture.{HasLength}
+use Rattle.set.specs.declared.Set.{Set}
+use Rattle.set.specs.Refusals.{refusalNumber, Declined}
+use Rattle.set.specs.Set.{made}
+use Rattle.set.specs.Book.{Book, blank, overture, lengthOf, declinedWith, entered}
+use Rattle.set.specs.Event.{Event, Unchanged}
+use Rattle.claim.specs.Trace.{Trace, setAfter}
+use Rattle.claim.specs.Claim.{SinceDial, notCalled, NeverBack, Reports, Answered, AllAnswered, callOf, bookAfter, sinceAfter, bitsOf, Played}
+use Rattle.claim.proofs.Claim.{claim}
+
+-- a call in the middle of a list
+at-call : (r : ℕ) (s : Set) (k : Book) (es : List Event) (e : Event) (later : List Event) → AllAnswered r s k (es ++ e ∷ later)
+    → Answered r (setAfter s es) (bookAfter r k (map callOf es)) e
+at-call r s k [] e later (answered, rest) = answered
+at-call r s k (x ∷ es) e later (answered, rest) = at-call r (x .set) (entered r k (x .call)) es e later rest
+
+-- from a set that creation hands out
+module _ (rate : ℕ) where
+  abbrev s : Set
+  s = made rate .set
+
+  module _ (es : List Event) (e : Event) (later : List Event) (t : Trace s (es ++ e ∷ later)) where
+    abbrev before : Book
+    before = bookAfter (s .rate) blank (map callOf es)
+
+    answered : Answered (s .rate) (setAfter s es) before e
+    answered = at-call (s .rate) s blank es e later (claim rate (es ++ e ∷ later) t .answered)
+
+    pub number-is : refusalNumber (e .refusal) ≡ declinedWith before (e .call)
+    number-is = answered .number
+
+    pub never-unsound : refusalNumber (e .refusal) ≡ 6 → ⊥
+    never-unsound = answered .sound
+
+    pub declined-unchanged : Declined (e .refusal) → Unchanged (setAfter s es) e
+    declined-unchanged = answered .unchanged
+
+    pub reports-the-book : Reports (e .set) (entered (s .rate) before (e .call))
+    reports-the-book = answered .reports
+
+  module _ (es : List Event) (t : Trace s es) (called : sinceAfter (s .rate) blank notCalled es .called ≡ true) where
+    abbrev digits : List ℕ
+    digits = bookAfter (s .rate) blank (map callOf es) .digits
+
+    abbrev T : ℕ
+    T = lengthOf digits (s .rate)
+
+    abbrev last : Set
+    last = setAfter s es
+
+    abbrev since : SinceDial
+    since = sinceAfter (s .rate) blank notCalled es
+
+    played : Played (s .rate) last digits T since
+    played = claim rate es t .played called
+
+    pub has-length : HasLength digits (s .rate) T
+    has-length = played .ends
+
+    pub in-bounds : TotalBounds (s .rate) (length digits)
+    in-bounds = played .bounds
+
+    pub first-samples : bitsOf (since .joined) ≡ bitsOf (overture digits (s .rate) (last .session .m))
+    first-samples = played .samples
+
+    pub zeros-past-T : (j : ℕ) → last .session .m ≡ T + j
+        → bitsOf (since .joined) ≡ bitsOf (overture digits (s .rate) T ++ replicate j (ofBits binary32 0))
+    zeros-past-T = played .past
+
+    pub sum-of-lengths : last .session .m ≡ since .lengths
+    sum-of-lengths = played .count
+
+    pub never-back : NeverBack (since .stages)
+    never-back = played .stages
+
+    pub up-exactly : (last .session .state ≡ Connected) ↔ ((T < last .session .m) ⊎ (since .emptied ≡ true))
+    up-exactly = played .up

@@ -1,0 +1,59 @@
+-- The examples of 01's table of refusals, computed over the definitions that the calls are proved to equal. Assumes nothing.
+use Prim.Native.Nat.{ℕ}
+use mathlib.Core.Path.{_≡_, refl}
+use mathlib.Core.List.{[]}
+use lib.ListN.{replicate}
+use Rattle.keys.specs.Keys.{held, allKeys}
+use Rattle.stage.specs.declared.StageState.the-variants as at
+use Rattle.soundness.specs.Sound.{rateOk, digitsOk, stateOk, soundState}
+use Rattle.at.specs.Processor as processor
+use Rattle.at.specs.At.{lineFull}
+use Rattle.session.specs.declared.SessionState.the-variants.{Connected}
+use Rattle.session.specs.Session.{stateNumber, idle}
+use Rattle.set.specs.declared.Set.{Set}
+use Rattle.set.specs.Sound.{sound}
+use Rattle.set.specs.Refusals.{refusalNumber, accepted}
+use Rattle.set.specs.Set.{freshSet, moved, creationCause, made, typingCause, lapseCause, forcedCause, fillCause, ringCause}
+
+-- a fresh set with a line of n ones
+abbrev ones : ℕ → Set
+ones n = moved (freshSet 8000) (processor.withLine (record { bytes = replicate 80 49; len = n }) processor.fresh) idle
+
+-- and one whose line is up
+abbrev up : Set
+up = moved (freshSet 8000) processor.fresh (record { state = Connected; digits = held []; m = 0; shown = 0; stage = at.Connected })
+
+-- 1, 7999: a fresh set at 8,000
+pub rate-7999 : (refusalNumber (creationCause 7999) ≡ 1) × (made 7999 .set ≡ freshSet 8000)
+unfolding made creationCause rateOk accepted
+rate-7999 = (refl, refl)
+
+-- 6, line length 81, whatever the call
+pub record Declined6 (s : Set) : Type 0 where
+  pub typing : (byte n : ℕ) → refusalNumber (typingCause s byte n) ≡ 6
+  pub time : refusalNumber (lapseCause s) ≡ 6
+  pub forcing : refusalNumber (forcedCause s) ≡ 6
+  pub filling : (b : ℕ) → refusalNumber (fillCause s b) ≡ 6
+  pub ring : refusalNumber (ringCause s) ≡ 6
+
+pub line-81 : Declined6 (ones 81)
+unfolding sound soundState stateOk digitsOk allKeys rateOk idle processor.sound typingCause lapseCause forcedCause fillCause ringCause
+line-81 = record { typing = λ byte n. refl; time = refl; forcing = refl; filling = λ b. refl; ring = refl }
+
+-- 2, 3 bytes; 4, the 81st "1"
+pub outbox-3 : refusalNumber (typingCause (freshSet 8000) 49 3) ≡ 2
+unfolding sound soundState stateOk digitsOk allKeys rateOk idle processor.sound lineFull typingCause
+outbox-3 = refl
+
+pub one-81 : refusalNumber (typingCause (ones 80) 49 4) ≡ 4
+unfolding sound soundState stateOk digitsOk allKeys rateOk idle processor.sound lineFull typingCause
+one-81 = refl
+
+-- 3, 65,537; 5, length 1 in Connected
+pub samples-65537 : refusalNumber (fillCause (freshSet 8000) 65537) ≡ 3
+unfolding sound soundState stateOk digitsOk allKeys rateOk idle processor.sound fillCause
+samples-65537 = refl
+
+pub connected-1 : refusalNumber (fillCause up 1) ≡ 5
+unfolding sound soundState stateOk digitsOk allKeys rateOk processor.sound stateNumber fillCause
+connected-1 = refl
