@@ -8,7 +8,7 @@ use mathlib.Core.List.{List, [], _∷_, map}
 use mathlib.Core.Logic.{_⊎_, inl, inr, ⊎-elim, _↔_}
 use lib.ListN.{length}
 use Rattle.schedule.proofs.Total.{total-bounds}
-use Rattle.passage.proofs.Way.{overture-length}
+use Rattle.passage.proofs.Overture.{overture-length}
 use Rattle.passage.proofs.Connected.{samples-past}
 use Rattle.soundness.specs.Sound.{rateOk}
 use Rattle.soundness.proofs.Limits.{rate-low, rate-high, digits-few}

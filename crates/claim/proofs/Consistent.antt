@@ -16,7 +16,7 @@ use Rattle.stage.specs.Stage.{stageNumber}
 use Rattle.overture.specs.Iteration.{fresh, after, samples}
 use Rattle.overture.proofs.Iteration.{samples-add}
 use Rattle.passage.specs.Overture.{HasLength}
-use Rattle.passage.proofs.Way.{overture-length, total-room}
+use Rattle.passage.proofs.Overture.{overture-length, total-room}
 use Rattle.passage.proofs.Connected.{connected-exactly}
 use Rattle.passage.proofs.Stages.{never-falls}
 use Rattle.soundness.specs.Sound.{rateOk, digitsOk}
@@ -101,7 +101,7 @@ module _ (r : ℕ) where
       past-end : (i : ℕ) → eqb (stageOfSample digits r (suc i)) 10 ≡ true → lengthOf digits r ≤ i
       unfolding stageOfSample
       past-end i e =
-          le-of-suc-le-suc (lt-of-not-le (λ (l : suc i ≤ lengthOf digits r). ten _ (eqb-true _ 10 e) (long .sounding i l)))
+          le-of-suc-le-suc (lt-of-not-le (λ (l : suc i ≤ lengthOf digits r). ten _ (eqb-true _ 10 e) (long .playing i l)))
         where
           ten : (n : ℕ) → n ≡ 10 → n ≤ 9 → ⊥
           ten n e l = omega arith
@@ -115,7 +115,7 @@ module _ (r : ℕ) where
 
       below-ten : (i : ℕ) → i < lengthOf digits r → stageOfSample digits r (suc i) ≤ 9
       unfolding stageOfSample
-      below-ten i l = long .sounding i l
+      below-ten i l = long .playing i l
 
       no-lower : (i j : ℕ) → i ≤ j → stageOfSample digits r (suc i) ≤ stageOfSample digits r (suc j)
       unfolding stageOfSample

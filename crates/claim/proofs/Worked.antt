@@ -13,7 +13,7 @@ use borrow.Author.Tests.{le-ltb, eq-eqb, ne-eqb}
 use Rattle.stage.specs.Stage.{stageNumber}
 use Rattle.schedule.proofs.Total.{total-bounds}
 use Rattle.passage.specs.Overture.{HasLength}
-use Rattle.passage.proofs.Way.{overture-length}
+use Rattle.passage.proofs.Overture.{overture-length}
 use Rattle.passage.proofs.Connected.{connected-exactly}
 use Rattle.ascii.specs.Ascii.{ascii}
 use Rattle.ascii.specs.Upper.{upper}
@@ -59,7 +59,7 @@ long = overture-length (ascii "12") 8000 (lit≤ tt) (lit≤ tt) (lit≤ tt)
 
 not-ten : (i : ℕ) → i < T → eqb (stageOfSample (ascii "12") 8000 (suc i)) 10 ≡ false
 unfolding stageOfSample
-not-ten i l = ne-eqb _ 10 (ten _ (long .sounding i l))
+not-ten i l = ne-eqb _ 10 (ten _ (long .playing i l))
   where
     ten : (n : ℕ) → n ≤ 9 → n ≡ 10 → ⊥
     ten n h e = omega arith

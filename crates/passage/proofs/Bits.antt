@@ -25,7 +25,7 @@ use Rattle.stage.specs.Enter.{enterOf}
 use Rattle.stage.specs.Next.{ciOf, cmJmOf, cjAt, cjOf, trainingOf, generateOf, stateNext}
 use Rattle.overture.specs.Iteration.{after}
 use Rattle.overture.proofs.Iteration.{after-suc}
-use Rattle.passage.proofs.Lasting.{Lasts, Passes, Course, then-lasts, passes}
+use Rattle.passage.proofs.Lasting.{Lasts, LastsWith, StageInvariant, then-lasts, lasts-with}
 use Rattle.passage.proofs.Counted.{counted}
 
 -- ---- the channel
@@ -63,8 +63,8 @@ module _ (payload : List ℕ) (r : ℕ) where
       next-done (channelAfter payload r n) payload (subst (λ (k : ℕ). k < 0xffff_ffff) (sym e) few) ∙ rw (step-is n, phase-is n, e)
 
 -- a state that is the payload's channel after j samples
-abbrev pub Keys : (FskChannel → StageState) → List ℕ → ℕ → ℕ → StageState → Type 0
-Keys state payload r j s = s ≡ state (channelAfter payload r j)
+abbrev pub IsChannelAfter : (FskChannel → StageState) → List ℕ → ℕ → ℕ → StageState → Type 0
+IsChannelAfter state payload r j s = s ≡ state (channelAfter payload r j)
 
 module _ (digits : List ℕ) (r : ℕ) (lo : 8000 ≤ r) (hi : r ≤ 192000) where
   few : (N : ℕ) → N ≤ 300 → bitsLength r N ≤ 0xffff_ffff
@@ -75,29 +75,29 @@ module _ (digits : List ℕ) (r : ℕ) (lo : 8000 ≤ r) (hi : r ≤ 192000) whe
       (named : (f : FskChannel) → stageOf (state f) ≡ k)
       (moves : (f : FskChannel) → generateOf (state f) digits r .state ≡ state (nextChannel f payload))
       (finishes : (f : FskChannel) → generateOf (state f) digits r .finished ≡ leb N (nextChannel f payload .done)) where
-    course : Course digits r k (Keys state payload r) (bitsAfter r) N (bitsLength r N)
+    invariant : StageInvariant digits r k (IsChannelAfter state payload r) (bitsAfter r) N (bitsLength r N)
     unfolding channelAfter
-    course = record {
+    invariant = record {
       named = λ j s a. ap stageOf a ∙ named (channelAfter payload r j);
       moves = λ j s a l. ap (λ (t : StageState). generateOf t digits r .state) a ∙ moves (channelAfter payload r j);
       finishes = λ j s a l. ap (λ (t : StageState). generateOf t digits r .finished) a ∙ finishes (channelAfter payload r j) ∙ ap (leb N) (done-is payload r (suc j) (le-trans l (few N B)));
     }
 
-    bits-pass : Passes digits r (state (freshChannel payload r)) k (Keys state payload r) (bitsLength r N) (enterOf (nextStage k) digits r)
+    bits-last : LastsWith digits r (state (freshChannel payload r)) k (IsChannelAfter state payload r) (bitsLength r N) (enterOf (nextStage k) digits r)
     unfolding channelAfter
-    bits-pass = passes digits r k (Keys state payload r) (bitsAfter r) N (bitsLength r N) course (bits-end r lo hi N B) (state (freshChannel payload r)) refl
+    bits-last = lasts-with digits r k (IsChannelAfter state payload r) (bitsAfter r) N (bitsLength r N) invariant (bits-end r lo hi N B) (state (freshChannel payload r)) refl
 
-  pub ci-passes : Passes digits r (enterOf stage.Ci digits r) stage.Ci (Keys Ci ciPayload r) (bitsLength r 60) (enterOf stage.Ansam digits r)
+  pub ci-lasts : LastsWith digits r (enterOf stage.Ci digits r) stage.Ci (IsChannelAfter Ci ciPayload r) (bitsLength r 60) (enterOf stage.Ansam digits r)
   unfolding enterOf generateOf ciOf
-  ci-passes = bits-pass ciPayload 60 (lit≤ tt) stage.Ci Ci (λ f. refl) (λ f. refl) (λ f. refl)
+  ci-lasts = bits-last ciPayload 60 (lit≤ tt) stage.Ci Ci (λ f. refl) (λ f. refl) (λ f. refl)
 
-  pub cm-jm-passes : Passes digits r (enterOf stage.CmJm digits r) stage.CmJm (Keys CmJm cmJmPayload r) (bitsLength r 80) (enterOf stage.Cj digits r)
+  pub cm-jm-lasts : LastsWith digits r (enterOf stage.CmJm digits r) stage.CmJm (IsChannelAfter CmJm cmJmPayload r) (bitsLength r 80) (enterOf stage.Cj digits r)
   unfolding enterOf generateOf cmJmOf
-  cm-jm-passes = bits-pass cmJmPayload 80 (lit≤ tt) stage.CmJm CmJm (λ f. refl) (λ f. refl) (λ f. refl)
+  cm-jm-lasts = bits-last cmJmPayload 80 (lit≤ tt) stage.CmJm CmJm (λ f. refl) (λ f. refl) (λ f. refl)
 
-  pub training-passes : Passes digits r (enterOf stage.Training digits r) stage.Training (Keys Training trainingPayload r) (bitsLength r 300) (enterOf stage.Connected digits r)
+  pub training-lasts : LastsWith digits r (enterOf stage.Training digits r) stage.Training (IsChannelAfter Training trainingPayload r) (bitsLength r 300) (enterOf stage.Connected digits r)
   unfolding enterOf generateOf trainingOf
-  training-passes = bits-pass trainingPayload 300 (lit≤ tt) stage.Training Training (λ f. refl) (λ f. refl) (λ f. refl)
+  training-lasts = bits-last trainingPayload 300 (lit≤ tt) stage.Training Training (λ f. refl) (λ f. refl) (λ f. refl)
 
   -- ---- Cj: its bits, of which none ends the stage, and then its zeros
   cj-moves : (f : FskChannel) → f .done < 60 → stateNext (Cj f 0) digits r ≡ Cj (nextChannel f cjPayload) 0

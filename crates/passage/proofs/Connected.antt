@@ -48,7 +48,7 @@ module _ (digits : List ℕ) (r : ℕ) where
         ten n e l = omega arith
 
         from : stageOf (after k (fresh digits r) digits r) ≡ stage.Connected → T ≤ k
-        from e = le-of-suc-le-suc (lt-of-not-le (λ (l : suc k ≤ T). ten _ (ap stageNumber e) (h .sounding k l)))
+        from e = le-of-suc-le-suc (lt-of-not-le (λ (l : suc k ≤ T). ten _ (ap stageNumber e) (h .playing k l)))
 
         up : T ≤ k → stageOf (after k (fresh digits r) digits r) ≡ stage.Connected
         up l = subst (λ (n : ℕ). stageOf (after n (fresh digits r) digits r) ≡ stage.Connected) (add-sub-of-le l) (ap stageOf (h .connected (k - T)))

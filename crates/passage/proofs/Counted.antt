@@ -24,30 +24,30 @@ use Rattle.stage.specs.Enter.{enterOf}
 use Rattle.stage.specs.Next.{offHookOf, dialToneOf, ringbackOf, ansamOf, generateOf}
 use Rattle.tones.specs.Samples.{shifted}
 use Rattle.tones.specs.Mixed.{gatedOf, answerOf}
-use Rattle.passage.proofs.Lasting.{Passes, Course, passes}
+use Rattle.passage.proofs.Lasting.{LastsWith, StageInvariant, lasts-with}
 
 -- one more of a count that no stage's length lets run to the largest
 pub saturating-inc : (L : ℕ) → L ≤ 0xffff_ffff → (n : ℕ) → n < L → saturatingInc n ≡ suc n
 saturating-inc L most n l = saturating-inc-is n (lt-of-lt-of-le l most) ∙ add-one n
 
 -- a state whose count is j
-abbrev pub Counts : {X : Type 0} → (X → ℕ → StageState) → ℕ → StageState → Type 0
-Counts {X} state j s = (x : X) × (s ≡ state x j)
+abbrev pub HasCount : {X : Type 0} → (X → ℕ → StageState) → ℕ → StageState → Type 0
+HasCount {X} state j s = (x : X) × (s ≡ state x j)
 
 module _ (digits : List ℕ) (r : ℕ) (k : Stage) (L : ℕ) (some : 1 ≤ L) (most : L ≤ 0xffff_ffff)
     {X : Type 0} (state : X → ℕ → StageState) (moved : X → ℕ → X)
     (named : (x : X) (n : ℕ) → stageOf (state x n) ≡ k)
     (moves : (x : X) (n : ℕ) → generateOf (state x n) digits r .state ≡ state (moved x n) (saturatingInc n))
     (finishes : (x : X) (n : ℕ) → generateOf (state x n) digits r .finished ≡ leb L (saturatingInc n)) where
-  course : Course digits r k (Counts state) (λ n. n) L L
-  course = record {
+  invariant : StageInvariant digits r k (HasCount state) (λ n. n) L L
+  invariant = record {
     named = λ j s a. ap stageOf (a .1) ∙ named (a .0) j;
     moves = λ j s a l. (moved (a .0) j, ap (λ (t : StageState). generateOf t digits r .state) (a .1) ∙ moves (a .0) j ∙ ap (state (moved (a .0) j)) (saturating-inc L most j (le-of-lt l)));
     finishes = λ j s a l. ap (λ (t : StageState). generateOf t digits r .finished) (a .1) ∙ finishes (a .0) j ∙ ap (leb L) (saturating-inc L most j l);
   }
 
-  pub counted : (x : X) → Passes digits r (state x 0) k (Counts state) L (enterOf (nextStage k) digits r)
-  counted x = passes digits r k (Counts state) (λ n. n) L L course (record { some = some; reached = le-refl L; before = λ n h l. l }) (state x 0) (x, refl)
+  pub counted : (x : X) → LastsWith digits r (state x 0) k (HasCount state) L (enterOf (nextStage k) digits r)
+  counted x = lasts-with digits r k (HasCount state) (λ n. n) L L invariant (record { some = some; reached = le-refl L; before = λ n h l. l }) (state x 0) (x, refl)
 
 -- ---- the four
 -- what their states carry beside the count
@@ -64,31 +64,31 @@ abbrev pub ansam : Nco × Nco → ℕ → StageState
 ansam x n = Ansam (x .0) (x .1) n
 
 module _ (digits : List ℕ) (r : ℕ) (lo : 8000 ≤ r) (hi : r ≤ 192000) where
-  pub off-hook-passes : Passes digits r (enterOf stage.OffHook digits r) stage.OffHook (Counts offHook) (samplesIn clickTime r) (enterOf stage.DialTone digits r)
+  pub off-hook-lasts : LastsWith digits r (enterOf stage.OffHook digits r) stage.OffHook (HasCount offHook) (samplesIn clickTime r) (enterOf stage.DialTone digits r)
   unfolding enterOf generateOf offHookOf
-  off-hook-passes =
+  off-hook-lasts =
       let range = click-range r lo hi in
       counted digits r stage.OffHook (samplesIn clickTime r) (range .0) (le-trans (range .1) (lit≤ tt)) offHook (λ rng n. shifted rng)
       (λ rng n. refl) (λ rng n. refl) (λ rng n. refl) _
 
-  pub dial-tone-passes : Passes digits r (enterOf stage.DialTone digits r) stage.DialTone (Counts dialTone) (samplesIn one r) (enterOf stage.Dialling digits r)
+  pub dial-tone-lasts : LastsWith digits r (enterOf stage.DialTone digits r) stage.DialTone (HasCount dialTone) (samplesIn one r) (enterOf stage.Dialling digits r)
   unfolding enterOf generateOf dialToneOf gatedOf
-  dial-tone-passes =
+  dial-tone-lasts =
       let range = dial-tone-range r lo hi in
       counted digits r stage.DialTone (samplesIn one r) (range .0) (le-trans (range .1) (lit≤ tt)) dialTone (λ x n. (steppedNco (x .0), steppedNco (x .1)))
       (λ x n. refl) (λ x n. refl) (λ x n. refl) (_, _)
 
-  pub ringback-passes : Passes digits r (enterOf stage.Ringback digits r) stage.Ringback (Counts ringback) (samplesIn ringbackTime r) (enterOf stage.Ci digits r)
+  pub ringback-lasts : LastsWith digits r (enterOf stage.Ringback digits r) stage.Ringback (HasCount ringback) (samplesIn ringbackTime r) (enterOf stage.Ci digits r)
   unfolding enterOf generateOf ringbackOf
-  ringback-passes =
+  ringback-lasts =
       let range = ringback-range r lo hi in
       let gated : Nco × Nco × ℕ → ℕ → Mixed = λ x n. gatedOf (ringTone (ringTime (timeAt r n))) (x .0) (x .1) in
       counted digits r stage.Ringback (samplesIn ringbackTime r) (range .0) (le-trans (range .1) (lit≤ tt)) ringback (λ x n. (gated x n .a, gated x n .b, ringAt (timeAt r n)))
       (λ x n. refl) (λ x n. refl) (λ x n. refl) (_, _, _)
 
-  pub ansam-passes : Passes digits r (enterOf stage.Ansam digits r) stage.Ansam (Counts ansam) (samplesIn ansamTime r) (enterOf stage.CmJm digits r)
+  pub ansam-lasts : LastsWith digits r (enterOf stage.Ansam digits r) stage.Ansam (HasCount ansam) (samplesIn ansamTime r) (enterOf stage.CmJm digits r)
   unfolding enterOf generateOf ansamOf answerOf
-  ansam-passes =
+  ansam-lasts =
       let range = ansam-range r lo hi in
       counted digits r stage.Ansam (samplesIn ansamTime r) (range .0) (le-trans (range .1) (lit≤ tt)) ansam (λ x n. (steppedNco (x .0), steppedNco (x .1)))
       (λ x n. refl) (λ x n. refl) (λ x n. refl) (_, _)

@@ -18,22 +18,22 @@ use Rattle.stage.specs.declared.Stage.the-variants as stage
 use Rattle.overture.specs.Iteration.{fresh, after}
 use Rattle.passage.specs.Lengths.{samplesBefore}
 use Rattle.passage.specs.Cue.{InDigitTone}
-use Rattle.passage.proofs.Dialling.{Pair, Dials, dialling-passes}
-use Rattle.passage.proofs.Way.{after-entry}
+use Rattle.passage.proofs.Dialling.{Pair, DiallingAfter, some-digits-last}
+use Rattle.passage.proofs.Overture.{after-entry}
 
 module _ (digits : List ℕ) (r : ℕ) (lo : 8000 ≤ r) (hi : r ≤ 192000) (few : length digits ≤ 76) where
   -- its count is n, its pair is that of t = n / r
   pub dialling-at : 0 < length digits → (n : ℕ) → n < diallingLength r (length digits)
-      → Dials digits r n (after (samplesIn clickTime r + samplesIn one r + n) (fresh digits r) digits r)
+      → DiallingAfter digits r n (after (samplesIn clickTime r + samplesIn one r + n) (fresh digits r) digits r)
   unfolding samplesBefore
-  dialling-at some n h = subst (Dials digits r n) (sym (after-entry digits r lo hi few stage.Dialling n)) (dialling-passes digits r lo hi some few .during n h)
+  dialling-at some n h = subst (DiallingAfter digits r n) (sym (after-entry digits r lo hi few stage.Dialling n)) (some-digits-last digits r lo hi some few .during n h)
 
   -- so a sample of digit p's tone is the one after those
   pub in-digit-tone : (p n : ℕ) → 0 < length digits → n < diallingLength r (length digits) → digitAt (timeAt r n) ≡ p → inTone (timeAt r n) ≡ true
       → InDigitTone digits r p (samplesIn clickTime r + samplesIn one r + n + 1)
   in-digit-tone p n some h i on = from (dialling-at some n h)
     where
-      from : Dials digits r n (after (samplesIn clickTime r + samplesIn one r + n) (fresh digits r) digits r)
+      from : DiallingAfter digits r n (after (samplesIn clickTime r + samplesIn one r + n) (fresh digits r) digits r)
           → InDigitTone digits r p (samplesIn clickTime r + samplesIn one r + n + 1)
       from d =
           let q : Pair digits r p true (d .dial) = rw (i, on) at (d .pair) in

@@ -33,7 +33,7 @@ use Rattle.stage.specs.Next.{dialState, diallingOf, generateOf, stateNext}
 use Rattle.tones.specs.Mixed.{gatedOf}
 use Rattle.tones.specs.Dial.{digitTones, pairStays, takenOver, dialledAt, dialStepOf}
 use Rattle.overture.specs.Iteration.{after}
-use Rattle.passage.proofs.Lasting.{Lasts, Passes, Course, passes}
+use Rattle.passage.proofs.Lasting.{Lasts, LastsWith, StageInvariant, lasts-with}
 use Rattle.passage.proofs.Counted.{saturating-inc}
 
 -- ---- the first sample is at t = 0: digit 0, in tone
@@ -83,7 +83,7 @@ stays-same d i on digit tone h e =
     (sym (eqb-true i digit digits), sym (beq-same on tone tones))
 
 -- ---- the stage's state after n samples
-pub record Dials (digits : List ℕ) (r n : ℕ) (s : StageState) : Type 0 where
+pub record DiallingAfter (digits : List ℕ) (r n : ℕ) (s : StageState) : Type 0 where
   pub dial : Dial
   pub state : s ≡ dialState dial n
   pub pair : Pair digits r (digitAt (timeAt r n)) (inTone (timeAt r n)) dial
@@ -101,7 +101,7 @@ module _ (digits : List ℕ) (r : ℕ) (dial : Dial) (n : ℕ) (more : saturatin
   unfolding diallingOf
   dial-finishes = rw step-is
 
-  dial-moves : (i : ℕ) (on : Bool) → Pair digits r i on dial → digitAt t < length digits → Dials digits r (suc n) (diallingOf dial n digits r .state)
+  dial-moves : (i : ℕ) (on : Bool) → Pair digits r i on dial → digitAt t < length digits → DiallingAfter digits r (suc n) (diallingOf dial n digits r .state)
   unfolding diallingOf
   dial-moves i on p l = record {
     dial = dialStepOf dial (saturatingInc n) digits r .dial;
@@ -127,18 +127,18 @@ module _ (digits : List ℕ) (r : ℕ) (lo : 8000 ≤ r) (hi : r ≤ 192000) (so
   digit-below zero l = rw (no-time r lo hi, digit-first) some
   digit-below (suc j) l = dialling-ends r lo hi (length digits) few some .before (suc j) (zero-lt-suc j) l
 
-  dial-below : (j : ℕ) (s : StageState) (a : Dials digits r j s) → j < L → a .dial .digit < length digits
+  dial-below : (j : ℕ) (s : StageState) (a : DiallingAfter digits r j s) → j < L → a .dial .digit < length digits
   dial-below j s a l = rw (a .pair .digit) (digit-below j l)
 
-  course : Course digits r stage.Dialling (Dials digits r) (digitAfter r) (length digits) L
+  invariant : StageInvariant digits r stage.Dialling (DiallingAfter digits r) (digitAfter r) (length digits) L
   unfolding generateOf
-  course = record {
+  invariant = record {
     named = λ j s a. ap stageOf (a .state);
     moves = λ j s a l. rw (a .state) (dial-moves digits r (a .dial) j (saturating-inc L short j (le-of-lt l)) (dial-below j s a (le-of-lt l)) _ _ (a .pair) (digit-below (suc j) l));
     finishes = λ j s a l. rw (a .state) (dial-finishes digits r (a .dial) j (saturating-inc L short j l) (dial-below j s a l));
   }
 
-  start : Dials digits r 0 (enterOf stage.Dialling digits r)
+  start : DiallingAfter digits r 0 (enterOf stage.Dialling digits r)
   unfolding enterOf
   start = record {
     dial = _;
@@ -146,13 +146,13 @@ module _ (digits : List ℕ) (r : ℕ) (lo : 8000 ≤ r) (hi : r ≤ 192000) (so
     pair = rw (no-time r lo hi, digit-first, tone-first) (record { digit = refl; tone = refl; low = λ e. refl; high = λ e. refl });
   }
 
-  pub dialling-passes : Passes digits r (enterOf stage.Dialling digits r) stage.Dialling (Dials digits r) L (enterOf stage.Ringback digits r)
-  dialling-passes = passes digits r stage.Dialling (Dials digits r) (digitAfter r) (length digits) L course (dialling-ends r lo hi (length digits) few some) (enterOf stage.Dialling digits r) start
+  pub some-digits-last : LastsWith digits r (enterOf stage.Dialling digits r) stage.Dialling (DiallingAfter digits r) L (enterOf stage.Ringback digits r)
+  some-digits-last = lasts-with digits r stage.Dialling (DiallingAfter digits r) (digitAfter r) (length digits) L invariant (dialling-ends r lo hi (length digits) few some) (enterOf stage.Dialling digits r) start
 
 -- ---- and of none: one sample
-none-last : (r : ℕ) → Lasts [] r (enterOf stage.Dialling [] r) stage.Dialling 1 (enterOf stage.Ringback [] r)
+no-digits-last : (r : ℕ) → Lasts [] r (enterOf stage.Dialling [] r) stage.Dialling 1 (enterOf stage.Ringback [] r)
 unfolding after enterOf stateNext generateOf diallingOf dialStepOf
-none-last r = record { stays = stays; ends = refl }
+no-digits-last r = record { stays = stays; ends = refl }
   where
     none : (j : ℕ) → suc j < 1 → ⊥
     none j l = omega arith
@@ -163,5 +163,5 @@ none-last r = record { stays = stays; ends = refl }
 
 pub dialling-lasts : (digits : List ℕ) (r : ℕ) → 8000 ≤ r → r ≤ 192000 → length digits ≤ 76
     → Lasts digits r (enterOf stage.Dialling digits r) stage.Dialling (diallingLength r (length digits)) (enterOf stage.Ringback digits r)
-dialling-lasts [] r lo hi few = rw (dialling-none r) (none-last r)
-dialling-lasts (x ∷ xs) r lo hi few = dialling-passes (x ∷ xs) r lo hi (zero-lt-suc (length xs)) few .lasts
+dialling-lasts [] r lo hi few = rw (dialling-none r) (no-digits-last r)
+dialling-lasts (x ∷ xs) r lo hi few = some-digits-last (x ∷ xs) r lo hi (zero-lt-suc (length xs)) few .lasts

@@ -16,7 +16,7 @@ use Rattle.stage.specs.Enter.{enterOf}
 use Rattle.stage.specs.Next.{generateOf, stateNext}
 use Rattle.overture.specs.Iteration.{after}
 use Rattle.overture.proofs.Iteration.{after-suc, after-add}
-use Rattle.passage.proofs.Stages.{stage-kept}
+use Rattle.passage.proofs.Stages.{stage-same}
 
 -- from the state s the iteration is in the stage k for L samples, and then at `next`
 pub record Lasts (digits : List ℕ) (r : ℕ) (s : StageState) (k : Stage) (L : ℕ) (next : StageState) : Type 0 where
@@ -24,12 +24,12 @@ pub record Lasts (digits : List ℕ) (r : ℕ) (s : StageState) (k : Stage) (L :
   pub ends : after L s digits r ≡ next
 
 -- and after j of those samples At holds of its state
-pub record Passes (digits : List ℕ) (r : ℕ) (s : StageState) (k : Stage) (At : ℕ → StageState → Type 0) (L : ℕ) (next : StageState) : Type 0 where
+pub record LastsWith (digits : List ℕ) (r : ℕ) (s : StageState) (k : Stage) (At : ℕ → StageState → Type 0) (L : ℕ) (next : StageState) : Type 0 where
   pub during : (j : ℕ) → j < L → At j (after j s digits r)
   pub lasts : Lasts digits r s k L next
 
 -- one sample of a stage, of which At holds after j samples, and which ends once the count has reached N
-pub record Course (digits : List ℕ) (r : ℕ) (k : Stage) (At : ℕ → StageState → Type 0) (count : ℕ → ℕ) (N L : ℕ) : Type 0 where
+pub record StageInvariant (digits : List ℕ) (r : ℕ) (k : Stage) (At : ℕ → StageState → Type 0) (count : ℕ → ℕ) (N L : ℕ) : Type 0 where
   pub named : (j : ℕ) (s : StageState) → At j s → stageOf s ≡ k
   pub moves : (j : ℕ) (s : StageState) → At j s → suc j < L → At (suc j) (generateOf s digits r .state)
   pub finishes : (j : ℕ) (s : StageState) → At j s → j < L → generateOf s digits r .finished ≡ leb N (count (suc j))
@@ -54,7 +54,7 @@ module _ (digits : List ℕ) (r : ℕ) where
       stays : (j : ℕ) → j < a + b → stageOf (after j s digits r) ≡ k
       stays j h = by j h (ltb j a) refl
 
-  module _ (k : Stage) (At : ℕ → StageState → Type 0) (count : ℕ → ℕ) (N L : ℕ) (c : Course digits r k At count N L) (reaches : Reaches count N L) where
+  module _ (k : Stage) (At : ℕ → StageState → Type 0) (count : ℕ → ℕ) (N L : ℕ) (c : StageInvariant digits r k At count N L) (reaches : Reaches count N L) where
     goes : (j : ℕ) (s : StageState) → At j s → suc j < L → stateNext s digits r ≡ generateOf s digits r .state
     unfolding stateNext
     goes j s a l = rw (c .finishes j s a (le-of-lt l), lt-leb N (count (suc j)) (reaches .before (suc j) (zero-lt-suc j) l))
@@ -63,7 +63,7 @@ module _ (digits : List ℕ) (r : ℕ) where
     unfolding stateNext
     leaves j s a e =
         rw (c .finishes j s a (le-of-eq e), le-leb N (count (suc j)) (subst (λ (n : ℕ). N ≤ count n) (sym e) (reaches .reached)))
-        (ap (λ (x : Stage). enterOf (nextStage x) digits r) (stage-kept s digits r ∙ c .named j s a))
+        (ap (λ (x : Stage). enterOf (nextStage x) digits r) (stage-same s digits r ∙ c .named j s a))
 
     at-each : (s : StageState) → At 0 s → (j : ℕ) → j < L → At j (after j s digits r)
     unfolding after
@@ -83,8 +83,8 @@ module _ (digits : List ℕ) (r : ℕ) where
         none h = omega arith
     ended s a (suc l) e = last s a l e
 
-    pub passes : (s : StageState) → At 0 s → Passes digits r s k At L (enterOf (nextStage k) digits r)
-    passes s a = record {
+    pub lasts-with : (s : StageState) → At 0 s → LastsWith digits r s k At L (enterOf (nextStage k) digits r)
+    lasts-with s a = record {
       during = at-each s a;
       lasts = record { stays = λ j l. c .named j (after j s digits r) (at-each s a j l); ends = ended s a L refl };
     }

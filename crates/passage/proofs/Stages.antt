@@ -17,25 +17,25 @@ use Rattle.overture.specs.Iteration.{after}
 use Rattle.overture.proofs.Iteration.{after-add}
 
 -- ---- one sample
-cj-kept : (b : Bool) (f : FskChannel) (z r : ℕ) → stageOf (cjAt b f z r .state) ≡ stage.Cj
+cj-same : (b : Bool) (f : FskChannel) (z r : ℕ) → stageOf (cjAt b f z r .state) ≡ stage.Cj
 unfolding cjAt
-cj-kept true f z r = refl
-cj-kept false f z r = refl
+cj-same true f z r = refl
+cj-same false f z r = refl
 
-pub stage-kept : (s : StageState) (digits : List ℕ) (r : ℕ) → stageOf (generateOf s digits r .state) ≡ stageOf s
+pub stage-same : (s : StageState) (digits : List ℕ) (r : ℕ) → stageOf (generateOf s digits r .state) ≡ stageOf s
 unfolding generateOf offHookOf dialToneOf diallingOf ringbackOf ciOf ansamOf cmJmOf cjOf trainingOf connectedOf
-stage-kept (OffHook rng n) digits r = refl
-stage-kept (DialTone a b n) digits r = refl
-stage-kept (Dialling i on a b n) digits r = refl
-stage-kept (Ringback a b n ring) digits r = refl
-stage-kept (Ci f) digits r = refl
-stage-kept (Ansam carrier env n) digits r = refl
-stage-kept (CmJm f) digits r = refl
-stage-kept (Cj f z) digits r = cj-kept (leb 60 (f .done)) f z r
-stage-kept (Training f) digits r = refl
-stage-kept Connected digits r = refl
+stage-same (OffHook rng n) digits r = refl
+stage-same (DialTone a b n) digits r = refl
+stage-same (Dialling i on a b n) digits r = refl
+stage-same (Ringback a b n ring) digits r = refl
+stage-same (Ci f) digits r = refl
+stage-same (Ansam carrier env n) digits r = refl
+stage-same (CmJm f) digits r = refl
+stage-same (Cj f z) digits r = cj-same (leb 60 (f .done)) f z r
+stage-same (Training f) digits r = refl
+stage-same Connected digits r = refl
 
-pub stage-entered : (k : Stage) (digits : List ℕ) (r : ℕ) → stageOf (enterOf k digits r) ≡ k
+stage-entered : (k : Stage) (digits : List ℕ) (r : ℕ) → stageOf (enterOf k digits r) ≡ k
 unfolding enterOf
 stage-entered stage.OffHook digits r = refl
 stage-entered stage.DialTone digits r = refl
@@ -68,7 +68,7 @@ module _ (digits : List ℕ) (r : ℕ) where
 
   one-no-lower : (s : StageState) → stageNumber (stageOf s) ≤ stageNumber (stageOf (stateNext s digits r))
   unfolding stateNext
-  one-no-lower s = le-trans (le-of-eq (ap stageNumber (sym (stage-kept s digits r)))) (onward-no-lower (generateOf s digits r .finished) (generateOf s digits r .state))
+  one-no-lower s = le-trans (le-of-eq (ap stageNumber (sym (stage-same s digits r)))) (onward-no-lower (generateOf s digits r .finished) (generateOf s digits r .state))
 
   some-no-lower : (k : ℕ) (s : StageState) → stageNumber (stageOf s) ≤ stageNumber (stageOf (after k s digits r))
   unfolding after

@@ -8,5 +8,5 @@ use Rattle.overture.specs.Iteration.{fresh, after}
 
 -- the length of the overture for digits at the rate r is T
 pub record HasLength (digits : List ℕ) (r T : ℕ) : Type 0 where
-  pub sounding : (k : ℕ) → k < T → stageNumber (stageOf (after k (fresh digits r) digits r)) ≤ 9
+  pub playing : (k : ℕ) → k < T → stageNumber (stageOf (after k (fresh digits r) digits r)) ≤ 9
   pub connected : (j : ℕ) → after (T + j) (fresh digits r) digits r ≡ Connected

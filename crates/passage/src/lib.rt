@@ -1,1 +1,1 @@
-// The way of an overture through its stages is a theorem about definitions: there is nothing to run in here.
+// How an overture goes through its stages is a theorem about definitions: there is nothing to run in here.

@@ -8,7 +8,7 @@ use native.Mathlib.Omega.{arith}
 use Rattle.schedule.specs.Length.{total}
 use Rattle.schedule.proofs.Total.{total-bounds}
 use Rattle.passage.specs.Overture.{HasLength}
-use Rattle.passage.proofs.Way.{overture-length}
+use Rattle.passage.proofs.Overture.{overture-length}
 use Rattle.session.specs.Session.{dialling}
 use Rattle.session.proofs.Dialled.{few, front-length}
 use borrow.Author.Needs.{needs}

@@ -1,4 +1,4 @@
--- The way of an overture: each stage is entered where the ones before it have ended, it is in stages 1 to 9 for exactly T samples, and in stage 10 ever after.
+-- An overture from its first sample on: each stage is entered where the ones before it have ended, it is in stages 1 to 9 for exactly T samples, and in stage 10 ever after.
 -- The stages' own laws, one after the other; that nothing before T is Connected, by the stage of sample T and the number that never falls. Assumes nothing.
 use mathlib.Core.Path.{_≡_, refl, sym, ap, _∙_}
 use mathlib.Core.List.{List}
@@ -20,10 +20,10 @@ use Rattle.overture.specs.Iteration.{fresh, after}
 use Rattle.overture.proofs.Iteration.{after-add}
 use Rattle.passage.specs.Lengths.{stageLength, samplesBefore}
 use Rattle.passage.specs.Overture.{HasLength}
-use Rattle.passage.proofs.Stages.{stage-entered, never-falls}
+use Rattle.passage.proofs.Stages.{never-falls}
 use Rattle.passage.proofs.Lasting.{Lasts}
-use Rattle.passage.proofs.Counted.{off-hook-passes, dial-tone-passes, ringback-passes, ansam-passes}
-use Rattle.passage.proofs.Bits.{ci-passes, cm-jm-passes, cj-lasts, training-passes}
+use Rattle.passage.proofs.Counted.{off-hook-lasts, dial-tone-lasts, ringback-lasts, ansam-lasts}
+use Rattle.passage.proofs.Bits.{ci-lasts, cm-jm-lasts, cj-lasts, training-lasts}
 use Rattle.passage.proofs.Dialling.{dialling-lasts}
 use Rattle.passage.proofs.Connected.{connected-stays, connected-lasts, one-length}
 
@@ -68,15 +68,15 @@ module _ (digits : List ℕ) (r : ℕ) (lo : 8000 ≤ r) (hi : r ≤ 192000) (fe
   -- each stage lasts its length
   pub stage-lasts : (k : Stage) → Lasts digits r (enterOf k digits r) k (stageLength k r (length digits)) (enterOf (nextStage k) digits r)
   unfolding stageLength
-  stage-lasts stage.OffHook = off-hook-passes digits r lo hi .lasts
-  stage-lasts stage.DialTone = dial-tone-passes digits r lo hi .lasts
+  stage-lasts stage.OffHook = off-hook-lasts digits r lo hi .lasts
+  stage-lasts stage.DialTone = dial-tone-lasts digits r lo hi .lasts
   stage-lasts stage.Dialling = dialling-lasts digits r lo hi few
-  stage-lasts stage.Ringback = ringback-passes digits r lo hi .lasts
-  stage-lasts stage.Ci = ci-passes digits r lo hi .lasts
-  stage-lasts stage.Ansam = ansam-passes digits r lo hi .lasts
-  stage-lasts stage.CmJm = cm-jm-passes digits r lo hi .lasts
+  stage-lasts stage.Ringback = ringback-lasts digits r lo hi .lasts
+  stage-lasts stage.Ci = ci-lasts digits r lo hi .lasts
+  stage-lasts stage.Ansam = ansam-lasts digits r lo hi .lasts
+  stage-lasts stage.CmJm = cm-jm-lasts digits r lo hi .lasts
   stage-lasts stage.Cj = cj-lasts digits r lo hi
-  stage-lasts stage.Training = training-passes digits r lo hi .lasts
+  stage-lasts stage.Training = training-lasts digits r lo hi .lasts
   stage-lasts stage.Connected = connected-lasts digits r
 
   -- and begins where those before it have ended
@@ -109,13 +109,8 @@ module _ (digits : List ℕ) (r : ℕ) (lo : 8000 ≤ r) (hi : r ≤ 192000) (fe
   pub stage-at : (k : Stage) (j : ℕ) → j < stageLength k r (length digits) → stageOf (after (samplesBefore k r (length digits) + j) (fresh digits r) digits r) ≡ k
   stage-at k j h = ap stageOf (after-entry k j) ∙ stage-lasts k .stays j h
 
-  -- ---- by numbers: from a stage's first sample on, none is of a stage before it; up to its last, none is of a stage after it
-  pub not-before : (k : Stage) (j : ℕ) → samplesBefore k r (length digits) ≤ j → stageNumber k ≤ stageNumber (stageOf (after j (fresh digits r) digits r))
-  not-before k j h =
-      le-trans (le-of-eq (ap stageNumber (sym (ap stageOf (enters k) ∙ stage-entered k digits r))))
-      (never-falls digits r (fresh digits r) (samplesBefore k r (length digits)) j h)
-
-  pub not-after : (k : Stage) → stageNumber k ≤ 9 → (j : ℕ) → j < samplesBefore (nextStage k) r (length digits)
+  -- up to a stage's last sample, none is of a stage after it
+  not-after : (k : Stage) → stageNumber k ≤ 9 → (j : ℕ) → j < samplesBefore (nextStage k) r (length digits)
       → stageNumber (stageOf (after j (fresh digits r) digits r)) ≤ stageNumber k
   not-after k h j l =
       let some = stage-some r lo hi (length digits) few k h in
@@ -132,7 +127,7 @@ module _ (digits : List ℕ) (r : ℕ) (lo : 8000 ≤ r) (hi : r ≤ 192000) (fe
   pub overture-length : HasLength digits r (total r (length digits))
   unfolding total samplesBefore enterOf
   overture-length = record {
-    sounding = not-after stage.Training (lit≤ tt);
+    playing = not-after stage.Training (lit≤ tt);
     connected = λ j. after-entry stage.Connected j ∙ connected-stays digits r j;
   }
 
