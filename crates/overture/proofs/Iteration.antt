@@ -1,14 +1,13 @@
--- Laws of the iteration: a + b samples are a and then b; a sample stored, and a part of the buffer lent on, are steps of it.
+-- Laws of the iteration: a + b samples are a and then b; one more is the last; a part of the buffer lent on is a step of it.
 -- By induction on the count. Assumes nothing.
 use Prim.Native.Nat.{ℕ, zero, suc, _+_, _-_, _≤_, _<_}
 use native.Mathlib.Nat.{suc-add, zero-add}
-use native.Mathlib.Numerals.{add-one}
 use native.Mathlib.Omega.{arith}
 use mathlib.Core.Path.{_≡_, refl, ap, _∙_}
 use mathlib.Core.List.{List, [], _∷_, _++_, append-assoc, append-nil}
-use lib.ListN.{length, take, drop, set, length-drop, drop-of-length-le}
-use lib.Seq.{drop-cons, set-at, take-at, drop-at, take-all, drop-drop}
-use lib.Ieee.{Float, nan}
+use lib.ListN.{length, take, drop, length-drop, drop-of-length-le}
+use lib.Seq.{take-at, drop-at, take-all, drop-drop}
+use lib.Ieee.{Float}
 use Rattle.math.specs.Narrow.{narrowed}
 use Rattle.stage.specs.declared.StageState.{StageState}
 use Rattle.stage.specs.Next.{sampleNext, stateNext}
@@ -20,7 +19,7 @@ module _ (digits : List ℕ) (r : ℕ) where
   after-suc zero s = refl
   after-suc (suc k) s = after-suc k (stateNext s digits r)
 
-  samples-suc : (k : ℕ) (s : StageState) → samples (suc k) s digits r ≡ samples k s digits r ++ (narrowed (sampleNext (after k s digits r) digits r) ∷ [])
+  pub samples-suc : (k : ℕ) (s : StageState) → samples (suc k) s digits r ≡ samples k s digits r ++ (narrowed (sampleNext (after k s digits r) digits r) ∷ [])
   unfolding samples after
   samples-suc zero s = refl
   samples-suc (suc k) s = ap (λ (l : List Float). narrowed (sampleNext s digits r) ∷ l) (samples-suc k (stateNext s digits r))
@@ -39,13 +38,6 @@ module _ (digits : List ℕ) (r : ℕ) where
   unfolding samples after
   samples-add zero b s = rw zero-add
   samples-add (suc a) b s = rw suc-add (ap (λ (l : List Float). narrowed (sampleNext s digits r) ∷ l) (samples-add a b (stateNext s digits r)))
-
-  -- one more sample is stored
-  pub stored : (i : ℕ) (s : StageState) (was : List Float) (v : Float) → i < length was → v ≡ narrowed (sampleNext (after i s digits r) digits r)
-      → set (samples i s digits r ++ drop i was) i v ≡ samples (i + 1) s digits r ++ drop (i + 1) was
-  stored i s was v h e =
-      rw (add-one, drop-cons was i nan, e, samples-suc, append-assoc)
-      (set-at (samples i s digits r) _ _ _ i (samples-length i s))
 
   -- the rest of the buffer was lent, from `at`, and has come back with w samples more
   pub lent : (at w : ℕ) (s : StageState) (was xs ys : List Float)

@@ -1,7 +1,6 @@
 -- Laws of the iteration, and of the writers that carry it out.
 pub mod Iteration
-pub mod Writing
-pub mod Bits
-pub mod Sending
 pub mod Playing
-pub mod Sounding
+pub mod Sending
+pub mod Stages
+pub mod Filling

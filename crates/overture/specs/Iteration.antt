@@ -2,12 +2,13 @@
 -- follow the fresh state.
 use Prim.Native.Nat.{ℕ, zero, suc}
 use mathlib.Core.List.{List, [], _∷_}
-use lib.Ieee.{Float}
+use lib.ListN.{replicate}
+use lib.Ieee.{Float, binary32, ofBits}
 use Rattle.math.specs.Narrow.{narrowed}
-use Rattle.stage.specs.declared.Stage.{Stage}
 use Rattle.stage.specs.declared.Stage.the-variants as stage
 use Rattle.stage.specs.declared.StageState.{StageState}
-use Rattle.stage.specs.Stage.{stageOf}
+use Rattle.stage.specs.declared.Shown.{Shown}
+use Rattle.stage.specs.Stage.{shownOf}
 use Rattle.stage.specs.Enter.{enterOf}
 use Rattle.stage.specs.Next.{sampleNext, stateNext}
 
@@ -25,7 +26,11 @@ unfoldable pub samples : ℕ → StageState → List ℕ → ℕ → List Float
 samples zero s digits r = []
 samples (suc k) s digits r = narrowed (sampleNext s digits r) ∷ samples k (stateNext s digits r) digits r
 
--- the stage shown after a fill of k samples: the last sample's, or, after an empty fill, the next sample's
-abbrev pub shownAfter : ℕ → StageState → List ℕ → ℕ → Stage
-shownAfter zero s digits r = stageOf s
-shownAfter (suc k) s digits r = stageOf (after k s digits r)
+-- what is shown after a fill of k samples: of the last sample, or, after an empty fill, of the next one
+abbrev pub shownAfter : ℕ → StageState → List ℕ → ℕ → Shown
+shownAfter zero s digits r = shownOf s
+shownAfter (suc k) s digits r = shownOf (after k s digits r)
+
+-- k samples of no sound
+abbrev pub zeros : ℕ → List Float
+zeros k = replicate k (ofBits binary32 0)

@@ -6,16 +6,15 @@ use mathlib.Core.List.{List, _∷_, _++_}
 use Prim.Native.Nat.{ℕ, zero, suc, _+_, _-_, _≤_, _<_}
 use native.Mathlib.Nat.{le-refl, le-antisymm, le-of-suc-le-suc, lt-of-not-le, add-zero, add-sub-of-le}
 use native.Mathlib.Omega.{arith}
-use lib.ListN.{replicate}
 use lib.Ieee.{Float, binary32, ofBits}
 use Rattle.stage.specs.declared.Stage.the-variants as stage
 use Rattle.stage.specs.declared.StageState.the-variants.{Connected}
 use Rattle.stage.specs.Stage.{stageNumber, stageOf}
 use Rattle.stage.specs.Enter.{enterOf}
 use Rattle.stage.specs.Next.{connectedOf, generateOf, sampleNext, stateNext}
-use Rattle.overture.specs.Iteration.{fresh, after, samples}
+use Rattle.overture.specs.Iteration.{fresh, after, samples, zeros}
 use Rattle.overture.proofs.Iteration.{samples-add}
-use Rattle.overture.proofs.Writing.{rest-narrow}
+use Rattle.overture.proofs.Playing.{zero-narrowed}
 use Rattle.passage.specs.Overture.{HasLength}
 use Rattle.passage.proofs.Lasting.{Lasts}
 
@@ -34,10 +33,10 @@ module _ (digits : List ℕ) (r : ℕ) where
       none : (j : ℕ) → j < 0 → ⊥
       none j l = omega arith
 
-  pub connected-zeros : (j : ℕ) → samples j Connected digits r ≡ replicate j (ofBits binary32 0)
+  pub connected-zeros : (j : ℕ) → samples j Connected digits r ≡ zeros j
   unfolding samples stateNext sampleNext generateOf connectedOf
   connected-zeros zero = refl
-  connected-zeros (suc j) = ap (λ (x : Float). x ∷ samples j Connected digits r) (sym rest-narrow) ∙ ap (λ (l : List Float). ofBits binary32 0 ∷ l) (connected-zeros j)
+  connected-zeros (suc j) = ap (λ (x : Float). x ∷ samples j Connected digits r) (sym zero-narrowed) ∙ ap (λ (l : List Float). ofBits binary32 0 ∷ l) (connected-zeros j)
 
   -- ---- an overture of the length T
   module _ (T : ℕ) (h : HasLength digits r T) where
@@ -53,7 +52,7 @@ module _ (digits : List ℕ) (r : ℕ) where
         up : T ≤ k → stageOf (after k (fresh digits r) digits r) ≡ stage.Connected
         up l = subst (λ (n : ℕ). stageOf (after n (fresh digits r) digits r) ≡ stage.Connected) (add-sub-of-le l) (ap stageOf (h .connected (k - T)))
 
-    pub samples-past : (j : ℕ) → samples (T + j) (fresh digits r) digits r ≡ samples T (fresh digits r) digits r ++ replicate j (ofBits binary32 0)
+    pub samples-past : (j : ℕ) → samples (T + j) (fresh digits r) digits r ≡ samples T (fresh digits r) digits r ++ zeros j
     samples-past j = rw (samples-add digits r T j (fresh digits r), line-up, connected-zeros j)
       where
         line-up : after T (fresh digits r) digits r ≡ Connected

@@ -4,15 +4,15 @@ use Prim.Native.Nat.{ℕ}
 use mathlib.Core.Bool.{Bool, true, false}
 use mathlib.Core.List.{List, []}
 use lib.Dec.{eqb}
-use lib.ListN.{take, replicate}
-use lib.Ieee.{Float, binary32, ofBits}
+use lib.ListN.{take}
+use lib.Ieee.{Float}
 use Rattle.keys.specs.Keys.{held, dialledOf}
-use Rattle.stage.specs.declared.Stage.{Stage}
+use Rattle.stage.specs.declared.Shown.{Shown}
 use Rattle.stage.specs.declared.StageState.{StageState}
 use Rattle.stage.specs.declared.StageState.the-variants as at
 use Rattle.stage.specs.Stage.{stageNumber}
 use Rattle.runs.specs.Runs.{counted}
-use Rattle.overture.specs.Iteration.{fresh, after, samples, shownAfter}
+use Rattle.overture.specs.Iteration.{fresh, after, samples, shownAfter, zeros}
 use Rattle.session.specs.declared.SessionState.{SessionState}
 use Rattle.session.specs.declared.SessionState.the-variants.{Idle, Dialling, Answering, Connected}
 use Rattle.session.specs.declared.Session.{Session}
@@ -50,19 +50,19 @@ dialling line r =
     }
 
 -- the stage shown after a fill: if that is Connected, 10, state becomes 3 and shown stage 0
-unfoldable pub connects : Stage → Bool
-connects s = eqb (stageNumber s) 10
+unfoldable pub connects : Shown → Bool
+connects s = eqb (stageNumber (s .stage)) 10
 
 abbrev pub shownState : Bool → SessionState
 shownState true = Connected
 shownState false = Dialling
 
-abbrev pub shownNumber : Bool → Stage → ℕ
+abbrev pub shownNumber : Bool → Shown → ℕ
 shownNumber true s = 0
-shownNumber false s = stageNumber s
+shownNumber false s = stageNumber (s .stage)
 
 -- a fill of b samples in Dialling; they are counted as far as there is room in m
-abbrev pub showing : Session → Stage → ℕ → StageState → Session
+abbrev pub showing : Session → Shown → ℕ → StageState → Session
 showing s shown b next =
     record {
       state = shownState (connects shown);
@@ -83,9 +83,6 @@ unfoldable pub filled : Session → ℕ → ℕ → Session
 filled s b r = filledIn (s .state) s b r
 
 -- what it writes: the next samples in Dialling, zeros in Idle and Answering
-abbrev pub zeros : ℕ → List Float
-zeros b = replicate b (ofBits binary32 0)
-
 abbrev pub writtenIn : SessionState → Session → ℕ → ℕ → List Float
 writtenIn Dialling s b r = samples b (s .stage) (digitsHeld s) r
 writtenIn Idle s b r = zeros b

@@ -1,5 +1,6 @@
 // One end of a call: where it is in the call, what was dialled, and the overture while it plays.
 use keys::Digits;
+use stage::Shown;
 use stage::Stage;
 use stage::StageState;
 ghost use mathlib.Core.Path.{_≡_};
@@ -8,7 +9,7 @@ ghost use lib.ListN.{length, take};
 ghost use Rattle.schedule.specs.Length.{total};
 ghost use Rattle.schedule.specs.Bounds.{TotalBounds};
 ghost use Rattle.passage.specs.Overture.{HasLength};
-ghost use Rattle.session.specs.Session.{stateNumber, digitsHeld, quietIn, idle, answering, dialling, showing, filledIn, filled, writtenIn, written, zeros, ringOf, ringNumber};
+ghost use Rattle.session.specs.Session.{stateNumber, digitsHeld, quietIn, idle, answering, dialling, showing, filledIn, filled, writtenIn, written, ringOf, ringNumber};
 ghost use Rattle.session.specs.declared.SessionState.the-variants.{Dialling};
 
 pub enum SessionState {
@@ -39,17 +40,6 @@ impl SessionState {
             SessionState::Answering => 2,
             SessionState::Connected => 3,
         }
-    }
-}
-
-// Zeros in the whole buffer.
-pub fn silence(out: &mut [f32])
-    ensures { λ _. ⌜ now (out .exit) ≡ zeros (length (now (out .entry))) ⌝ }
-{
-    let mut i: usize = 0;
-    while i < out.len() {
-        out[i] = 0.0;
-        i += 1;
     }
 }
 
@@ -155,12 +145,13 @@ impl Session {
         quiet_in(SessionState::Idle)
     }
 
-    // The session after a fill in Dialling, whose shown stage and next state are given.
-    fn showing(self, shown: Stage, b: usize, next: StageState) -> Session
+    // The session after a fill in Dialling, of which what is shown and the next state are given.
+    fn showing(self, shown: Shown, b: usize, next: StageState) -> Session
         ensures { λ r. ⌜ r ≡ showing self shown b next ⌝ }
     {
         let digits = self.digits;
-        let number = shown.number();
+        let stage = shown.stage;
+        let number = stage.number();
         let m = runs::saturating_add(self.m, b);
         if number == 10 {
             return Session {
@@ -192,7 +183,7 @@ impl Session {
         let from: usize = 0;
         let b = out.len();
         let w = overture::read(stage, &keys[from..len], rate, out);
-        let shown = w.stage;
+        let shown = w.shown;
         let next = w.state;
         self.showing(shown, b, next)
     }
@@ -206,15 +197,15 @@ impl Session {
         match state {
             SessionState::Dialling => self.perform(rate, out),
             SessionState::Idle => {
-                silence(out);
+                overture::silence(out);
                 self
             }
             SessionState::Answering => {
-                silence(out);
+                overture::silence(out);
                 self
             }
             SessionState::Connected => {
-                silence(out);
+                overture::silence(out);
                 self
             }
         }

@@ -13,6 +13,7 @@ use borrow.Author.Tests.{ltb-false, eqb-true, eqb-false}
 use Rattle.keys.specs.Keys.{held, digitsOf}
 use Rattle.keys.proofs.Line.{digits-whole, padded-front}
 use Rattle.stage.specs.declared.Stage.{Stage}
+use Rattle.stage.specs.declared.Shown.{Shown}
 use Rattle.stage.specs.declared.Stage.the-variants as stage
 use Rattle.stage.specs.declared.StageState.{StageState}
 use Rattle.stage.specs.declared.StageState.the-variants as at
@@ -185,7 +186,7 @@ module _ (r : ℕ) (k : Book) (s : Set) (inv : Invariant r k s) where
 
 -- ---- a fill in Dialling
 shown-stage : (digits : List ℕ) (r count b : ℕ)
-    → stageNumber (shownAfter b (after count (fresh digits r) digits r) digits r) ≡ shownBy digits r count b
+    → stageNumber (shownAfter b (after count (fresh digits r) digits r) digits r .stage) ≡ shownBy digits r count b
 unfolding stageOfSample
 shown-stage digits r count zero = refl
 shown-stage digits r count (suc b) =
@@ -203,9 +204,9 @@ at-most-10 stage.Cj = omega arith
 at-most-10 stage.Training = omega arith
 at-most-10 stage.Connected = omega arith
 
-shown-most : (up : Bool) (x : Stage) → eqb (stageNumber x) 10 ≡ up → shownNumber up x ≤ 9
+shown-most : (up : Bool) (x : Shown) → eqb (stageNumber (x .stage)) 10 ≡ up → shownNumber up x ≤ 9
 shown-most true x e = zero-le
-shown-most false x e = least (stageNumber x) (at-most-10 x) (eqb-false _ 10 e)
+shown-most false x e = least (stageNumber (x .stage)) (at-most-10 (x .stage)) (eqb-false _ 10 e)
   where
     least : (n : ℕ) → n ≤ 10 → (n ≡ 10 → ⊥) → n ≤ 9
     least n l d = omega arith
@@ -221,7 +222,7 @@ module _ (r : ℕ) (p : AtProcessor) (digits : List ℕ) (count shown : ℕ) (s 
     held-digits : digitsHeld (s .session) ≡ digits
     held-digits = rw (f .digits) (padded-front digits)
 
-    shows : stageNumber (shownAfter b (s .session .stage) (digitsHeld (s .session)) (s .rate)) ≡ shownBy digits r count b
+    shows : stageNumber (shownAfter b (s .session .stage) (digitsHeld (s .session)) (s .rate) .stage) ≡ shownBy digits r count b
     shows = rw (held-digits, f .stage, f .rate) (shown-stage digits r count b)
 
     onward : after b (s .session .stage) (digitsHeld (s .session)) (s .rate) ≡ after (count + b) (fresh digits r) digits r
@@ -230,14 +231,14 @@ module _ (r : ℕ) (p : AtProcessor) (digits : List ℕ) (count shown : ℕ) (s 
     writes : samples b (s .session .stage) (digitsHeld (s .session)) (s .rate) ≡ samples b (after count (fresh digits r) digits r) digits r
     writes = rw (held-digits, f .stage, f .rate)
 
-    abbrev next : Stage → StageState → Set
+    abbrev next : Shown → StageState → Set
     next x st = moved s (s .processor) (showing (s .session) x b st)
 
     same-state : (up : Bool) → shownState up ≡ stateIf up
     same-state true = refl
     same-state false = refl
 
-    same-shown : (up : Bool) (x : Stage) → shownNumber up x ≡ shownIf up (stageNumber x)
+    same-shown : (up : Bool) (x : Shown) → shownNumber up x ≡ shownIf up (stageNumber (x .stage))
     same-shown true x = refl
     same-shown false x = refl
 
@@ -248,21 +249,21 @@ module _ (r : ℕ) (p : AtProcessor) (digits : List ℕ) (count shown : ℕ) (s 
     within : b ≤ 65536 → counted b (s .session .m) ≡ count + b
     within short = ap (counted b) (f .count) ∙ counted-is b count (omega (arith, inv .room refl))
 
-    filled-follows : b ≤ 65536 → (x : Stage) (st : StageState) → stageNumber x ≡ shownBy digits r count b → st ≡ after (count + b) (fresh digits r) digits r
+    filled-follows : b ≤ 65536 → (x : Shown) (st : StageState) → stageNumber (x .stage) ≡ shownBy digits r count b → st ≡ after (count + b) (fresh digits r) digits r
         → Follows r (afterFill (eqb (shownBy digits r count b) 10) (shownBy digits r count b) (count + b) playing) (next x st)
     unfolding connects
     filled-follows short x st e g =
         record {
           rate = f .rate;
           processor = f .processor;
-          state = rw (← e) (same-state (eqb (stageNumber x) 10));
+          state = rw (← e) (same-state (eqb (stageNumber (x .stage)) 10));
           digits = f .digits;
           count = within short;
-          shown = rw (← e) (same-shown (eqb (stageNumber x) 10) x);
+          shown = rw (← e) (same-shown (eqb (stageNumber (x .stage)) 10) x);
           stage = g ∙ sym (same-stage (eqb (shownBy digits r count b) 10));
         }
 
-    filled-sound : b ≤ 65536 → (x : Stage) (st : StageState) → st ≡ after (count + b) (fresh digits r) digits r → sound (next x st) ≡ true
+    filled-sound : b ≤ 65536 → (x : Shown) (st : StageState) → st ≡ after (count + b) (fresh digits r) digits r → sound (next x st) ≡ true
     unfolding connects
     filled-sound short x st g =
         let q = ranges s (inv .sound) in
@@ -272,7 +273,7 @@ module _ (r : ℕ) (p : AtProcessor) (digits : List ℕ) (count shown : ℕ) (s 
           state = rw (g, held-digits, f .rate) (after-sound digits r (count + b) (fresh digits r) (first-sound _ digits r (rw (f .rate) at (parts .rate)) (rw held-digits at (parts .keys))) .1);
           processor = q .processor;
           count = rw (within short) (omega (arith, inv .room refl));
-          shown = shown-most (eqb (stageNumber x) 10) x refl;
+          shown = shown-most (eqb (stageNumber (x .stage)) 10) x refl;
         })
 
 idle-differs : stateNumber Idle ≡ stateNumber Dialling → ⊥

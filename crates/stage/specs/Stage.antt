@@ -3,6 +3,7 @@ use Prim.Native.Nat.{ℕ}
 use Rattle.stage.specs.declared.Stage.{Stage}
 use Rattle.stage.specs.declared.Stage.the-variants as stage
 use Rattle.stage.specs.declared.StageState.{StageState}
+use Rattle.stage.specs.declared.Shown.{Shown}
 use Rattle.stage.specs.declared.StageState.the-variants.{OffHook, DialTone, Dialling, Ringback, Ci, Ansam, CmJm, Cj, Training, Connected}
 
 abbrev pub stageNumber : Stage → ℕ
@@ -42,3 +43,7 @@ stageOf (CmJm f) = stage.CmJm
 stageOf (Cj f z) = stage.Cj
 stageOf (Training f) = stage.Training
 stageOf Connected = stage.Connected
+
+-- what is shown of a state's next sample
+abbrev pub shownOf : StageState → Shown
+shownOf s = record { stage = stageOf s }

@@ -3,7 +3,7 @@
 use fsk::FskChannel;
 use nco::Nco;
 ghost use mathlib.Core.Path.{_≡_};
-ghost use Rattle.stage.specs.Stage.{stageNumber, nextStage, stageOf};
+ghost use Rattle.stage.specs.Stage.{stageNumber, nextStage, stageOf, shownOf};
 ghost use Rattle.stage.specs.Enter.{enterOf};
 
 const DIAL_TONE_A: f64 = 350.0;
@@ -83,6 +83,11 @@ pub enum StageState {
     Connected,
 }
 
+// What is shown of a sample.
+pub struct Shown {
+    pub stage: Stage,
+}
+
 impl Stage {
     // 01's number.
     pub fn number(self) -> u8
@@ -155,6 +160,14 @@ impl StageState {
             StageState::Training(_) => Stage::Training,
             StageState::Connected => Stage::Connected,
         }
+    }
+
+    // What is shown of the next sample.
+    pub fn shown(self) -> Shown
+        ensures { λ r. ⌜ r ≡ shownOf self ⌝ }
+    {
+        let stage = self.stage();
+        Shown { stage }
     }
 }
 

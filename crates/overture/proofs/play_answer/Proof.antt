@@ -2,19 +2,20 @@
 use Prim.Native.Nat.{_-_}
 use native.Mathlib.Omega.{arith}
 use Rattle.tones.specs.Mixed.{answerOf}
-use Rattle.overture.proofs.Playing.{Playing, playing-start, playing-again, playing-full}
+use Rattle.overture.specs.Writers.{mixing}
+use Rattle.overture.proofs.Playing.{Playing, playing-start, playing-long, playing-again, playing-done}
 use borrow.Author.Needs.{needs}
 use Rattle.overture.proofs.play_answer.Statement.{statement}
 use Rattle.overture.proofs.play_answer.Tie as tie
 
 abbrev Inv-loop : tie.InvT-loop
-Inv-loop sign count out₀ x₀ y₀ i₀ out x y i = Playing (λ u v. answerOf u v sign) count x₀ y₀ out₀ out x y i
+Inv-loop sign count out₀ x₀ y₀ i₀ out x y i = Playing (mixing (λ u v. answerOf u v sign)) count (record { a = x₀; b = y₀ }) out₀ out (record { a = x; b = y }) i
 
 abbrev μ-loop : tie.MeasureT-loop
 μ-loop sign count out₀ x₀ y₀ i₀ out x y i = count - i
 
 loop-holds : tie.Need-loop-holds Inv-loop μ-loop
-loop-holds c = playing-start _ _ _ _ _
+loop-holds c = playing-start _ _ _ _ (c .before .pre)
 
 answer-tone-requires : tie.Need-answer-tone-requires Inv-loop μ-loop
 answer-tone-requires c κs = search needs
@@ -26,7 +27,7 @@ mul-out : tie.Need-mul-out Inv-loop μ-loop
 mul-out c = let w = c .before .before .before .before in omega (arith, w .loop-test .taken, w .before .before .before .pre, w .before .before .before .good)
 
 slice-write-out : tie.Need-slice-write-out Inv-loop μ-loop
-slice-write-out c = let w = c .before .before .before .before in omega (arith, w .loop-test .taken, w .before .before .before .pre, w .before .loop .inv .long)
+slice-write-out c = let w = c .before .before .before .before in omega (arith, w .loop-test .taken, w .before .before .before .pre, playing-long _ _ _ _ _ _ _ (w .before .loop .inv))
 
 add-i : tie.Need-add-i Inv-loop μ-loop
 add-i c = search needs
@@ -38,16 +39,15 @@ loop-again : tie.Need-loop-again Inv-loop μ-loop
 loop-again c =
     let t = c .before .before .before in
     let w = t .before in
-    playing-again _ _ _ _ _ _ _ _ _ (w .before .loop .inv) (w .loop-test .taken) (omega (arith, w .loop-test .taken, w .before .before .before .pre, w .before .loop .inv .long)) _ _ _
+    playing-again _ _ _ _ _ _ _ (w .before .loop .inv) (w .loop-test .taken) _ _
     (rw (c .narrow .ensures, t .answer-tone .ensures))
-    (rw (t .answer-tone .ensures))
     (rw (t .answer-tone .ensures))
 
 same-length : tie.Need-same-length Inv-loop μ-loop
-same-length c = c .before .loop .inv .long
+same-length c = playing-long _ _ _ _ _ _ _ (c .before .loop .inv)
 
 returns : tie.Need-returns Inv-loop μ-loop
-returns c = playing-full _ _ _ _ _ _ _ _ _ (c .before .loop .inv) (c .loop-test .left)
+returns c = playing-done _ _ _ _ _ _ _ (c .before .loop .inv) (c .loop-test .left)
 
 pub play-answer-spec : {M : Type 1} → statement M
 play-answer-spec =

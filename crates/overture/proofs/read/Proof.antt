@@ -2,25 +2,25 @@
 use Prim.Native.Nat.{_-_}
 use lib.ListN.{length}
 use native.Mathlib.Omega.{arith}
-use Rattle.overture.proofs.Writing.{Filling, fill-start, fill-again, fill-long, fill-buffer, fill-state, fill-shown, fits-in, moves}
+use Rattle.overture.proofs.Filling.{Filling, fill-start, fill-again, fill-long, fill-buffer, fill-state, fill-shown, fits-in, part-some}
 use borrow.Author.Needs.{needs}
 use Rattle.overture.proofs.read.Statement.{statement}
 use Rattle.overture.proofs.read.Tie as tie
 
 abbrev Inv-loop : tie.InvT-loop
-Inv-loop digits rate out₀ s₀ owner₀ at₀ out s owner at = Filling digits rate s₀ out₀ out s at owner
+Inv-loop digits rate out₀ s₀ shown₀ at₀ out s shown at = Filling digits rate s₀ out₀ out s at shown
 
 abbrev μ-loop : tie.MeasureT-loop
-μ-loop digits rate out₀ s₀ owner₀ at₀ out s owner at = length out₀ - at
+μ-loop digits rate out₀ s₀ shown₀ at₀ out s shown at = length out₀ - at
 
-stage-requires : tie.Need-stage-requires Inv-loop μ-loop
-stage-requires c κs = search needs
+shown-requires : tie.Need-shown-requires Inv-loop μ-loop
+shown-requires c κs = search needs
 
 loop-holds : tie.Need-loop-holds Inv-loop μ-loop
-loop-holds c = fill-start _ _ _ _ _ (c .stage .ensures)
+loop-holds c = fill-start _ _ _ _ _ (c .shown .ensures)
 
-stage-requires-2 : tie.Need-stage-requires-2 Inv-loop μ-loop
-stage-requires-2 c κs = search needs
+shown-requires-2 : tie.Need-shown-requires-2 Inv-loop μ-loop
+shown-requires-2 c κs = search needs
 
 mul-write-stage : tie.Need-mul-write-stage Inv-loop μ-loop
 mul-write-stage c = search needs
@@ -35,20 +35,19 @@ part-write-stage-end : tie.Need-part-write-stage-end Inv-loop μ-loop
 part-write-stage-end c = search needs
 
 write-stage-requires : tie.Need-write-stage-requires Inv-loop μ-loop
-write-stage-requires c κs = search needs
+write-stage-requires c κs = part-some _ _ _ _ _ _ _ _ (c .before .before .before .loop .inv) (c .before .before .loop-test .taken)
 
 add-at : tie.Need-add-at Inv-loop μ-loop
-add-at c = omega (arith, fits-in _ _ _ _ _ _ _ _ (c .before .before .before .before .before .before .before .loop .inv) _ _ (c .before .before .before .before .before .before .loop-test .taken) (c .before .before .before .write-stage .ensures), c .before .before .before .before .before .before .before .before .before .before .before .good)
+add-at c = omega (arith, fits-in _ _ _ _ _ _ _ _ (c .before .before .before .before .before .before .before .loop .inv) _ _ (c .before .before .before .write-stage .ensures), c .before .before .before .before .before .before .before .before .before .before .before .good)
 
 loop-less : tie.Need-loop-less Inv-loop μ-loop
 loop-less c =
     let F = c .before .before .before .before .before .before .before .loop .inv in
-    let l = c .before .before .before .before .before .before .loop-test .taken in
     let W = c .before .before .before .write-stage .ensures in
-    omega (arith, fits-in _ _ _ _ _ _ _ _ F _ _ l W, moves _ _ _ _ _ _ _ _ F _ _ l W)
+    omega (arith, fits-in _ _ _ _ _ _ _ _ F _ _ W, W .some)
 
 loop-again : tie.Need-loop-again Inv-loop μ-loop
-loop-again c = fill-again _ _ _ _ _ _ _ _ (c .before .before .before .before .before .before .before .loop .inv) _ _ (c .before .before .before .before .before .before .loop-test .taken) (c .before .before .before .write-stage .ensures) _ (c .before .before .before .before .before .stage2 .ensures)
+loop-again c = fill-again _ _ _ _ _ _ _ _ (c .before .before .before .before .before .before .before .loop .inv) _ _ (c .before .before .before .write-stage .ensures) _ (c .before .before .before .before .before .shown2 .ensures)
 
 same-length : tie.Need-same-length Inv-loop μ-loop
 same-length c = fill-long _ _ _ _ _ _ _ _ (c .before .loop .inv)
@@ -65,9 +64,9 @@ read-spec =
     (tie.spec
     Inv-loop
     μ-loop
-    stage-requires
+    shown-requires
     loop-holds
-    stage-requires-2
+    shown-requires-2
     mul-write-stage
     sub-write-stage
     part-write-stage-start

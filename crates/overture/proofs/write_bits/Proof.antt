@@ -1,9 +1,8 @@
--- `write_bits` meets its contract: the invariant is `Sending`, `Going` for each stage that sends these bits; a turn takes two of its steps.
--- Assumes nothing.
+-- `write_bits` meets its contract: the invariant is `Sending`; a turn takes two of its steps. Assumes nothing.
 use Prim.Native.Nat.{_-_, _≤_}
 use lib.ListN.{length, length-set}
 use native.Mathlib.Omega.{arith}
-use Rattle.overture.proofs.Sending.{Sending, sending-start, sending-again, sending-ended, sending-full}
+use Rattle.overture.proofs.Sending.{Sending, sending-start, sending-long, sending-again, sending-ended, sending-full}
 use borrow.Author.Needs.{needs}
 use Rattle.overture.proofs.write_bits.Statement.{statement}
 use Rattle.overture.proofs.write_bits.Tie as tie
@@ -39,7 +38,7 @@ add-i : tie.Need-add-i Inv-loop μ-loop
 add-i c = search needs
 
 same-length : tie.Need-same-length Inv-loop μ-loop
-same-length c = simp length-set (c .before .before .before .before .before .before .before .before .loop .inv .0 .long)
+same-length c = simp length-set (sending-long _ _ _ _ _ _ _ (c .before .before .before .before .before .before .before .before .loop .inv .0))
 
 returns : tie.Need-returns Inv-loop μ-loop
 returns c =
@@ -48,7 +47,6 @@ returns c =
     sending-ended _ _ _ _ _ _ _ (w .before .loop .inv .0) (omega (arith, w .loop-test .taken)) _ _
     (rw (n .narrow .ensures, n .before .sample-twice .ensures .0))
     (n .before .before .before .before .moved .ensures)
-    (c .if1 .taken)
 
 moved-requires-2 : tie.Need-moved-requires-2 Inv-loop μ-loop
 moved-requires-2 c κs = search needs
@@ -57,16 +55,16 @@ narrow-requires-2 : tie.Need-narrow-requires-2 Inv-loop μ-loop
 narrow-requires-2 c κs = search needs
 
 mul-out-2 : tie.Need-mul-out-2 Inv-loop μ-loop
-mul-out-2 c = let w = c .before .before .before .before .before .before .before .before .before in omega (arith, w .loop-test .taken, w .before .loop .inv .0 .long, w .before .before .before .before .good)
+mul-out-2 c = let w = c .before .before .before .before .before .before .before .before .before in omega (arith, w .loop-test .taken, sending-long _ _ _ _ _ _ _ (w .before .loop .inv .0), w .before .before .before .before .good)
 
 slice-write-out-2 : tie.Need-slice-write-out-2 Inv-loop μ-loop
 slice-write-out-2 c = let w = c .before .before .before .before .before .before .before .before .before in simp length-set (omega (arith, w .loop-test .taken))
 
 add-i-2 : tie.Need-add-i-2 Inv-loop μ-loop
-add-i-2 c = let w = c .before .before .before .before .before .before .before .before .before in omega (arith, w .loop-test .taken, w .before .loop .inv .0 .long, w .before .before .before .before .good)
+add-i-2 c = let w = c .before .before .before .before .before .before .before .before .before in omega (arith, w .loop-test .taken, sending-long _ _ _ _ _ _ _ (w .before .loop .inv .0), w .before .before .before .before .good)
 
 same-length-2 : tie.Need-same-length-2 Inv-loop μ-loop
-same-length-2 c = simp (length-set, length-set) (c .before .before .before .before .before .before .before .before .before .before .before .before .loop .inv .0 .long)
+same-length-2 c = simp (length-set, length-set) (sending-long _ _ _ _ _ _ _ (c .before .before .before .before .before .before .before .before .before .before .before .before .loop .inv .0))
 
 returns-2 : tie.Need-returns-2 Inv-loop μ-loop
 returns-2 c =
@@ -82,12 +80,11 @@ returns-2 c =
     (simp length-set (omega (arith, w .loop-test .taken))) _ _
     (rw (n2 .narrow2 .ensures, n .before .sample-twice .ensures .1))
     (n2 .before .moved2 .ensures)
-    (c .if2 .taken)
 
 loop-less : tie.Need-loop-less Inv-loop μ-loop
 loop-less c =
     let w = c .before .before .before .before .before .before .before .before .before .before .before in
-    omega (arith, w .before .loop .inv .0 .long, w .loop-test .taken)
+    omega (arith, sending-long _ _ _ _ _ _ _ (w .before .loop .inv .0), w .loop-test .taken)
 
 loop-again : tie.Need-loop-again Inv-loop μ-loop
 loop-again c =
@@ -123,36 +120,20 @@ add-i-3 : tie.Need-add-i-3 Inv-loop μ-loop
 add-i-3 c = search needs
 
 same-length-3 : tie.Need-same-length-3 Inv-loop μ-loop
-same-length-3 c = simp length-set (c .before .before .before .before .before .before .before .loop .inv .0 .long)
+same-length-3 c = simp length-set (sending-long _ _ _ _ _ _ _ (c .before .before .before .before .before .loop .inv .0))
 
 returns-3 : tie.Need-returns-3 Inv-loop μ-loop
 returns-3 c =
-    let n = c .before .before in
-    let x = n .before .before in
+    let x = c .before .before in
     sending-ended _ _ _ _ _ _ _ (x .before .before .before .loop .inv .0) (x .before .if3 .taken) _ _
-    (rw (n .narrow3 .ensures, x .next-sample .ensures .0))
+    (rw (c .narrow3 .ensures, x .next-sample .ensures .0))
     (x .next-sample .ensures .1)
-    (c .if4 .taken)
 
 same-length-4 : tie.Need-same-length-4 Inv-loop μ-loop
-same-length-4 c = simp length-set (c .before .before .before .before .before .before .before .loop .inv .0 .long)
+same-length-4 c = sending-long _ _ _ _ _ _ _ (c .before .before .loop .inv .0)
 
 returns-4 : tie.Need-returns-4 Inv-loop μ-loop
-returns-4 c =
-    let n = c .before .before in
-    let x = n .before .before in
-    sending-full _ _ _ _ _ _ _
-    (sending-again _ _ _ _ _ _ _ (x .before .before .before .loop .inv .0) (x .before .if3 .taken) _ _
-    (rw (n .narrow3 .ensures, x .next-sample .ensures .0))
-    (x .next-sample .ensures .1)
-    (c .if4 .left))
-    (simp length-set (omega (arith, x .before .before .loop-test .left, x .before .if3 .taken)))
-
-same-length-5 : tie.Need-same-length-5 Inv-loop μ-loop
-same-length-5 c = c .before .before .loop .inv .0 .long
-
-returns-5 : tie.Need-returns-5 Inv-loop μ-loop
-returns-5 c = sending-full _ _ _ _ _ _ _ (c .before .before .loop .inv .0) (c .if3 .left)
+returns-4 c = sending-full _ _ _ _ _ _ _ (c .before .before .loop .inv .0) (c .before .before .before .before .before .pre) (c .if3 .left)
 
 pub write-bits-spec : {M : Type 1} → statement M
 write-bits-spec =
@@ -187,6 +168,4 @@ write-bits-spec =
     same-length-3
     returns-3
     same-length-4
-    returns-4
-    same-length-5
-    returns-5)
+    returns-4)

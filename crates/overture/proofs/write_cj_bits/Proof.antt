@@ -1,7 +1,5 @@
 -- `write_cj_bits` meets its contract: the state is the same whether its bits are done or not. Assumes nothing.
-use borrow.Author.Tests.{lt-ltb}
-use Rattle.overture.proofs.Bits.{cj-sends}
-use Rattle.overture.proofs.Sending.{sent-either}
+use Rattle.overture.proofs.Stages.{cj-bits-wrote}
 use borrow.Author.Needs.{needs}
 use Rattle.overture.proofs.write_cj_bits.Statement.{statement}
 use Rattle.overture.proofs.write_cj_bits.Tie as tie
@@ -16,8 +14,7 @@ same-length : tie.Need-same-length
 same-length c = search needs
 
 returns : tie.Need-returns
-returns c = sent-either _ _ _ _ _ _ (cj-sends _ _ _) _ (lt-ltb _ 60 (c .before .before .before .before .before .before .before .before .pre)) _ _ _ (c .before .before .before .write-bits .ensures)
+returns c = cj-bits-wrote _ _ _ _ _ _ _ (c .before .before .before .before .before .before .before .before .pre .0) (c .before .before .before .write-bits .ensures)
 
 pub write-cj-bits-spec : {M : Type 1} → statement M
-write-cj-bits-spec =
-    tie.close (tie.spec slice-aggregate-write-bits write-bits-requires same-length returns)
+write-cj-bits-spec = tie.close (tie.spec slice-aggregate-write-bits write-bits-requires same-length returns)

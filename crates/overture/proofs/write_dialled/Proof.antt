@@ -1,13 +1,10 @@
 -- `write_dialled` meets its contract: it is one step of the iteration. Assumes nothing.
-use native.Mathlib.Omega.{arith}
+use mathlib.Core.Path.{refl, _∙_}
 use Rattle.stage.specs.Next.{sampleNext, stateNext, generateOf, diallingOf}
-use Rattle.overture.proofs.Writing.{start, ended, full}
+use Rattle.overture.proofs.Stages.{one-wrote}
 use borrow.Author.Needs.{needs}
 use Rattle.overture.proofs.write_dialled.Statement.{statement}
 use Rattle.overture.proofs.write_dialled.Tie as tie
-
-returns : tie.Need-returns
-returns c = full _ _ _ _ _ _ _ (start _ _ _ _) (omega (arith, c .if1 .taken))
 
 saturating-inc-requires : tie.Need-saturating-inc-requires
 saturating-inc-requires c κs = search needs
@@ -21,44 +18,21 @@ narrow-requires c κs = search needs
 slice-write-out : tie.Need-slice-write-out
 slice-write-out c = search needs
 
-enter-state-requires : tie.Need-enter-state-requires
-enter-state-requires c κs = search needs
+next-state-requires : tie.Need-next-state-requires
+next-state-requires c κs = search needs
 
 same-length : tie.Need-same-length
 same-length c = search needs
 
-returns-2 : tie.Need-returns-2
+returns : tie.Need-returns
 unfolding sampleNext stateNext generateOf diallingOf
-returns-2 c =
-    let o = c .before .before in
-    let d = o .before .before .before .before in
-    ended _ _ _ _ _ _ 0 (start _ _ _ _) (omega (arith, d .before .before .if1 .left)) _ _
-    (rw (o .narrow .ensures, d .dial-step .ensures, d .before .saturating-inc .ensures))
-    (rw (c .enter-state .ensures, ← d .before .saturating-inc .ensures, ← d .dial-step .ensures, c .before .if2 .taken))
-
-same-length-2 : tie.Need-same-length-2
-same-length-2 c = search needs
-
-returns-3 : tie.Need-returns-3
-unfolding sampleNext stateNext generateOf diallingOf
-returns-3 c =
-    let o = c .before in
-    let d = o .before .before .before .before in
-    ended _ _ _ _ _ _ 0 (start _ _ _ _) (omega (arith, d .before .before .if1 .left)) _ _
-    (rw (o .narrow .ensures, d .dial-step .ensures, d .before .saturating-inc .ensures))
-    (rw (← d .before .saturating-inc .ensures, ← d .dial-step .ensures, c .if2 .left))
+returns c =
+    let d = c .before .before .before .before .before in
+    let i = d .before in
+    one-wrote _ _ _ _ _ _ _ (i .before .before .before .pre)
+    (rw (c .before .narrow .ensures, d .dial-step .ensures, i .saturating-inc .ensures))
+    (c .next-state .ensures ∙ rw (d .dial-step .ensures, i .saturating-inc .ensures))
+    refl
 
 pub write-dialled-spec : {M : Type 1} → statement M
-write-dialled-spec =
-    tie.close
-    (tie.spec
-    returns
-    saturating-inc-requires
-    dial-step-requires
-    narrow-requires
-    slice-write-out
-    enter-state-requires
-    same-length
-    returns-2
-    same-length-2
-    returns-3)
+write-dialled-spec = tie.close (tie.spec saturating-inc-requires dial-step-requires narrow-requires slice-write-out next-state-requires same-length returns)

@@ -1,4 +1,5 @@
--- `write_stage` meets its contract: case by case, each stage by its own writer. Assumes nothing.
+-- `write_stage` meets its contract: case by case, each stage by its own writer, and those that are bits by the writer of bits. Assumes nothing.
+use Rattle.overture.proofs.Stages.{ci-wrote, cm-jm-wrote, training-wrote}
 use borrow.Author.Needs.{needs}
 use Rattle.overture.proofs.write_stage.Statement.{statement}
 use Rattle.overture.proofs.write_stage.Tie as tie
@@ -30,8 +31,14 @@ write-ringback-requires c κs = search needs
 enum-known-state-5 : tie.Need-enum-known-state-5
 enum-known-state-5 c = search needs
 
-write-ci-requires : tie.Need-write-ci-requires
-write-ci-requires c κs = search needs
+slice-aggregate-write-bits : tie.Need-slice-aggregate-write-bits
+slice-aggregate-write-bits c = search needs
+
+write-bits-requires : tie.Need-write-bits-requires
+write-bits-requires c κs = search needs
+
+next-state-requires : tie.Need-next-state-requires
+next-state-requires c κs = search needs
 
 enum-known-state-6 : tie.Need-enum-known-state-6
 enum-known-state-6 c = search needs
@@ -42,8 +49,14 @@ write-ansam-requires c κs = search needs
 enum-known-state-7 : tie.Need-enum-known-state-7
 enum-known-state-7 c = search needs
 
-write-cm-jm-requires : tie.Need-write-cm-jm-requires
-write-cm-jm-requires c κs = search needs
+slice-aggregate-write-bits-2 : tie.Need-slice-aggregate-write-bits-2
+slice-aggregate-write-bits-2 c = search needs
+
+write-bits-requires-2 : tie.Need-write-bits-requires-2
+write-bits-requires-2 c κs = search needs
+
+next-state-requires-2 : tie.Need-next-state-requires-2
+next-state-requires-2 c κs = search needs
 
 enum-known-state-8 : tie.Need-enum-known-state-8
 enum-known-state-8 c = search needs
@@ -54,8 +67,14 @@ write-cj-requires c κs = search needs
 enum-known-state-9 : tie.Need-enum-known-state-9
 enum-known-state-9 c = search needs
 
-write-training-requires : tie.Need-write-training-requires
-write-training-requires c κs = search needs
+slice-aggregate-write-bits-3 : tie.Need-slice-aggregate-write-bits-3
+slice-aggregate-write-bits-3 c = search needs
+
+write-bits-requires-3 : tie.Need-write-bits-requires-3
+write-bits-requires-3 c κs = search needs
+
+next-state-requires-3 : tie.Need-next-state-requires-3
+next-state-requires-3 c κs = search needs
 
 enum-told : tie.Need-enum-told
 enum-told c = search needs
@@ -91,7 +110,9 @@ same-length-5 : tie.Need-same-length-5
 same-length-5 c = search needs
 
 returns-5 : tie.Need-returns-5
-returns-5 c = rw (c .before .before .before .before .before .state5 .given .1) (c .before .before .write-ci .ensures)
+returns-5 c =
+    let w = c .before .before .before .before .before in
+    rw (w .before .before .before .before .state5 .given .1) (ci-wrote _ _ _ _ _ _ (w .write-bits .ensures) _ (c .next-state .ensures))
 
 same-length-6 : tie.Need-same-length-6
 same-length-6 c = search needs
@@ -103,7 +124,9 @@ same-length-7 : tie.Need-same-length-7
 same-length-7 c = search needs
 
 returns-7 : tie.Need-returns-7
-returns-7 c = rw (c .before .before .before .before .before .state7 .given .1) (c .before .before .write-cm-jm .ensures)
+returns-7 c =
+    let w = c .before .before .before .before .before in
+    rw (w .before .before .before .before .state7 .given .1) (cm-jm-wrote _ _ _ _ _ _ (w .write-bits2 .ensures) _ (c .next-state2 .ensures))
 
 same-length-8 : tie.Need-same-length-8
 same-length-8 c = search needs
@@ -115,7 +138,9 @@ same-length-9 : tie.Need-same-length-9
 same-length-9 c = search needs
 
 returns-9 : tie.Need-returns-9
-returns-9 c = rw (c .before .before .before .before .before .state9 .given .1) (c .before .before .write-training .ensures)
+returns-9 c =
+    let w = c .before .before .before .before .before in
+    rw (w .before .before .before .before .state9 .given .1) (training-wrote _ _ _ _ _ _ (w .write-bits3 .ensures) _ (c .next-state3 .ensures))
 
 same-length-10 : tie.Need-same-length-10
 same-length-10 c = search needs
@@ -136,15 +161,21 @@ write-stage-spec =
     enum-known-state-4
     write-ringback-requires
     enum-known-state-5
-    write-ci-requires
+    slice-aggregate-write-bits
+    write-bits-requires
+    next-state-requires
     enum-known-state-6
     write-ansam-requires
     enum-known-state-7
-    write-cm-jm-requires
+    slice-aggregate-write-bits-2
+    write-bits-requires-2
+    next-state-requires-2
     enum-known-state-8
     write-cj-requires
     enum-known-state-9
-    write-training-requires
+    slice-aggregate-write-bits-3
+    write-bits-requires-3
+    next-state-requires-3
     enum-told
     write-connected-requires
     same-length

@@ -32,8 +32,8 @@ same-length c = search needs
 
 returns : tie.Need-returns
 returns c =
-    let held = c .before .before .before .before .before .before .before .held-count .ensures .1 in
-    let r = c .before .before .before .read .ensures in
+    let held = c .before .before .before .before .before .before .before .before .held-count .ensures .1 in
+    let r = c .before .before .before .before .read .ensures in
     (rw (c .showing .ensures, r .1 .1, r .1 .0, sub-zero, held), rw (sub-zero, held) at (r .0))
 
 pub perform-spec : {M : Type 1} → statement M
