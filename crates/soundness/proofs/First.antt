@@ -20,7 +20,7 @@ use Rattle.tones.specs.Dial.{tonesFor, digitTones}
 use Rattle.stage.specs.declared.Stage.{Stage}
 use Rattle.stage.specs.declared.Stage.the-variants as stage
 use Rattle.stage.specs.Enter.{at, enterOf}
-use Rattle.soundness.specs.Sound.{rateOk, digitsOk, digitOk, ringOk}
+use Rattle.soundness.specs.Sound.{rateOk, digitsOk, digitOk}
 use Rattle.soundness.proofs.Limits.{rate-low, rate-high, digits-few}
 use Rattle.soundness.proofs.Oscillators.{Hertz, hertz, fresh-nco}
 use Rattle.soundness.proofs.Modulators.{fresh-channel}
@@ -47,7 +47,6 @@ digit-hertz digits i = go (getD digits i 0) _ refl
 
 -- ---- stages
 first-digit : (d : ℕ) → digitOk 0 d ≡ true
-unfolding digitOk
 first-digit zero = refl
 first-digit (suc d) = rw (lt-ltb 0 (suc d) (zero-lt-suc d))
 
@@ -60,7 +59,7 @@ module _ (r : ℕ) (lo : 8000 ≤ r) (hi : r ≤ 192000) where
   first-bits payload N h = record { modulator = fresh-channel r lo hi payload; done = h }
 
   pub first-facts : (s : Stage) (digits : List ℕ) → length digits ≤ 76 → Facts (enterOf s digits r) (length digits) r
-  unfolding enterOf ringOk freshChannel
+  unfolding enterOf freshChannel
   first-facts stage.OffHook digits D = click-range r lo hi .0
   first-facts stage.DialTone digits D = first-tones 350 450 _ (lit≤ tt) (lit≤ tt) (dial-tone-range r lo hi .0)
   first-facts stage.Dialling digits D =

@@ -39,7 +39,7 @@ use Rattle.soundness.proofs.States.{SoundTones, SoundBits, SoundCj, Fac
 use Rattle.soundness.proofs.First.{digit-hertz, first-facts}
 
 ring-ok : (t : Float) → ringOk (ringAt t) ≡ true
-unfolding ringAt ringOk
+unfolding ringAt
 ring-ok t = go (secondRing t)
   where
     go : (b : Bool) → eqb (ringBy b) 1 || eqb (ringBy b) 2 ≡ true
@@ -47,7 +47,6 @@ ring-ok t = go (secondRing t)
     go false = refl
 
 below-ok : (i d : ℕ) → i < d → digitOk i d ≡ true
-unfolding digitOk
 below-ok i d h = rw (lt-ltb i d h)
 
 module _ (r : ℕ) (lo : 8000 ≤ r) (hi : r ≤ 192000) where

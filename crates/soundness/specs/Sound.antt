@@ -34,11 +34,11 @@ unfoldable pub modulatorOk : Modulator → ℕ → Bool
 modulatorOk m r = ncoOk (m .nco) r && (inSymbol (m .phase) && eq (m .step) (symbolStep r))
 
 -- digit position below d, or 0 with d = 0
-unfoldable pub digitOk : ℕ → ℕ → Bool
+abbrev pub digitOk : ℕ → ℕ → Bool
 digitOk i d = ltb i d || (eqb i 0 && eqb d 0)
 
 -- ring 1 or 2
-unfoldable pub ringOk : ℕ → Bool
+abbrev pub ringOk : ℕ → Bool
 ringOk ring = eqb ring 1 || eqb ring 2
 
 -- n below the stage's own end, R(s), and two oscillators
