@@ -30,7 +30,7 @@ unfoldable pub framed : List ℕ → List Bool
 framed [] = []
 framed (b ∷ bs) = frameOf b ++ framed bs
 
--- bit k of a payload's frames, from 0; past the last one the line is at mark
+-- bit k of a payload's frames, from 0; where there is none it reads as 1
 unfoldable pub bitAt : List ℕ → ℕ → Bool
 bitAt payload k = getD (framed payload) k true
 

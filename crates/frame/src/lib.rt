@@ -38,7 +38,7 @@ pub fn has_bit(payload: &[u8], index: usize) -> bool
     index / 10 < payload.len()
 }
 
-// Bit `index` of the payload's frames, counted from 0. Past the last one the line is at mark.
+// Bit `index` of the payload's frames, counted from 0; where there is none it reads as a mark.
 pub fn payload_bit(payload: &[u8], index: usize) -> bool
     ensures { λ r. ⌜ r ≡ bitAt (now (payload .entry)) index ⌝ }
 {
