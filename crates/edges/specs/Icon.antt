@@ -2,11 +2,8 @@
 use Prim.Native.Nat.{ℕ, _-_, _<_, _≤_}
 use mathlib.Core.Path.{_≡_}
 use mathlib.Core.Bool.{Bool, true, false}
-use lib.Dec.{eqb}
-use Rattle.set.specs.declared.Refusal.{Refusal}
-use Rattle.set.specs.declared.Refusal.the-variants.{Accepted, Unsound}
 use Rattle.set.specs.declared.Set.{Set}
-use Rattle.set.specs.Refusals.{refusalNumber}
+use Rattle.set.specs.Refusals.{causeOfSound, accepted, either}
 use Rattle.set.specs.Sound.{sound}
 use Rattle.set.specs.Set.{fill, isUp}
 use Rattle.edges.specs.declared.Shown.{Shown}
@@ -20,13 +17,9 @@ iconIf false s = s .session .shown
 unfoldable pub iconOf : Set → ℕ
 iconOf s = iconIf (isUp (s .session)) s
 
--- it is worked out, so the set is checked: 6
-abbrev pub shownIf : Bool → Set → Shown
-shownIf false s = record { refusal = Unsound; icon = 0 }
-shownIf true s = record { refusal = Accepted; icon = iconOf s }
-
+-- it is worked out, so the set is checked
 unfoldable pub shown : Set → Shown
-shown s = shownIf (sound s) s
+shown s = record { refusal = causeOfSound (sound s); icon = either (sound s) (iconOf s) 0 }
 
 -- after a fill of n samples
 unfoldable pub iconAfter : Set → ℕ → ℕ
@@ -37,9 +30,6 @@ pub record IsFirst (s : Set) (stage n k : ℕ) : Type 0 where
   pub within : k ≤ n
   pub before : 1 < k → iconAfter s (k - 1) < stage
   pub shows : stage ≤ iconAfter s n → stage ≤ iconAfter s k
-
-abbrev pub accepted : Refusal → Bool
-accepted cause = eqb (refusalNumber cause) 0
 
 -- the answer: declined as the fill is, with sample 0, else the stage's first sample
 pub record FirstIs (s : Set) (stage n : ℕ) (f : First) : Type 0 where

@@ -55,7 +55,7 @@ pub fn first_sample(set: Set, stage: u8, samples: &mut [f32]) -> First
 {
     let filled = set.process_out(samples);
     let refusal = filled.refusal;
-    if refusal.number() == 0 {
+    if refusal.accepted() {
         let sample = search(set, stage, samples);
         set.process_out(samples);
         return First { refusal, sample };

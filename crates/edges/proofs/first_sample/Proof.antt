@@ -4,13 +4,12 @@ use Prim.Native.Nat.{ℕ}
 use mathlib.Core.Bool.{true, false, true≢false}
 use mathlib.Core.Path.{_≡_, refl, sym, ap, subst, _∙_}
 use borrow.Author.Needs.{needs}
-use borrow.Author.Tests.{eq-eqb, ne-eqb}
 use denote.Ref.{now}
 use lib.ListN.{length}
 use Rattle.set.specs.declared.Filled.{Filled}
-use Rattle.set.specs.Refusals.{refusalNumber}
+use Rattle.set.specs.Refusals.{accepted}
 use Rattle.set.specs.Set.{fill}
-use Rattle.edges.specs.Icon.{accepted, IsFirst}
+use Rattle.edges.specs.Icon.{IsFirst}
 use Rattle.edges.proofs.Refilled.{refilled}
 use Rattle.edges.proofs.first_sample.Statement.{statement}
 use Rattle.edges.proofs.first_sample.Tie as tie
@@ -18,8 +17,8 @@ use Rattle.edges.proofs.first_sample.Tie as tie
 process-out-requires : tie.Need-process-out-requires
 process-out-requires c κs = search needs
 
-number-requires : tie.Need-number-requires
-number-requires c κs = search needs
+accepted-requires : tie.Need-accepted-requires
+accepted-requires c κs = search needs
 
 search-requires : tie.Need-search-requires
 search-requires c κs = search needs
@@ -36,8 +35,7 @@ returns c =
     let at-fill = at-if .before .before .before .before in
     let a = at-fill .before .before .before .args in
     let cause = ap (λ (f : Filled). f .refusal) (at-fill .process-out .ensures .0) in
-    let number = at-if .before .number .ensures ∙ ap refusalNumber cause in
-    let ok : accepted (fill (a .set) (length (now (a .samples))) .refusal) ≡ true = eq-eqb (refusalNumber (fill (a .set) (length (now (a .samples))) .refusal)) 0 (sym number ∙ at-if .if1 .taken) in
+    let ok : accepted (fill (a .set) (length (now (a .samples))) .refusal) ≡ true = sym (at-if .before .accepted .ensures ∙ ap accepted cause) ∙ at-if .if1 .taken in
     let found = c .before .before .before .before .before .before .search in (
       record {
         refusal = cause;
@@ -55,8 +53,7 @@ returns-2 c =
     let at-fill = c .before .before .before .before in
     let a = at-fill .before .before .before .args in
     let cause = ap (λ (f : Filled). f .refusal) (at-fill .process-out .ensures .0) in
-    let number = c .before .number .ensures ∙ ap refusalNumber cause in
-    let not-ok : accepted (fill (a .set) (length (now (a .samples))) .refusal) ≡ false = ne-eqb (refusalNumber (fill (a .set) (length (now (a .samples))) .refusal)) 0 (λ e. c .if1 .left (number ∙ e)) in (
+    let not-ok : accepted (fill (a .set) (length (now (a .samples))) .refusal) ≡ false = sym (c .before .accepted .ensures ∙ ap accepted cause) ∙ c .if1 .left in (
       record {
         refusal = cause;
         declined = λ _. refl;
@@ -70,7 +67,7 @@ first-sample-spec =
     tie.close
     (tie.spec
     process-out-requires
-    number-requires
+    accepted-requires
     search-requires
     process-out-requires-2
     same-length
