@@ -1,0 +1,51 @@
+-- Demand 1 holds of every set: each call asks nothing, and its contract tells the rest. Assumes nothing.
+use Prim.Native.Nat.{ℕ}
+use mathlib.Core.Path.{_≡_, refl, sym, _∙_}
+use mathlib.Core.Bool.{Bool, true, false}
+use mathlib.Core.List.{List, [], _∷_}
+use native.Mathlib.Omega.{arith}
+use contract.Lifetimes.{Lfts}
+use denote.Ref.{RefT, now, at-last}
+use lib.Dec.{leb}
+use lib.ListN.{length}
+use Rattle.ascii.specs.Front.{putIf, put, putLengthIf, putLength}
+use Rattle.reply.specs.Texts.{textOf}
+use Rattle.nco.specs.Lent.{lentSample, lentNco}
+use Rattle.set.specs.declared.Set.{Set}
+use Rattle.set.proofs.Answers.{new-answers, feed-answers, advance-time-answers, force-data-mode-answers, process-out-answers, ring-number-answers}
+use Rattle.cue.proofs.Answers.{cue-answers}
+use Rattle.reply.proofs.write_reply.Reads as write-reply
+use Rattle.answers.specs.Answers.{Answers}
+
+-- a text of which nothing is written leaves the buffer
+nothing-written : (text was : List ℕ) → putLength text (length was) ≡ 0 → put text was ≡ was
+unfolding put putLength
+nothing-written text was e = go (leb (length text) (length was)) text e
+  where
+    go : (fits : Bool) (text : List ℕ) → putLengthIf fits text ≡ 0 → putIf fits text was ≡ was
+    go false text e = refl
+    go true [] e = refl
+    go true (x ∷ text) e = let no : ⊥ = omega arith in absurd no
+
+writer-answers : (code : ℕ) (κs : Lfts 1) (out : RefT (List ℕ)) (left : List ℕ) (n : ℕ)
+    → write-reply.Learnt κs (code, (out, tt)) n (code, (at-last out left, tt))
+    → (n ≡ putLength (textOf code) (length (now out))) × (n ≡ 0 → left ≡ now out)
+writer-answers code κs out left n d =
+    let told : n ≡ putLength (textOf code) (length (now out)) = d .0 in
+    let wrote : left ≡ put (textOf code) (now out) = d .1 in
+    (told, λ nothing. wrote ∙ nothing-written (textOf code) (now out) (sym told ∙ nothing))
+
+pub answers : (s : Set) → Answers s
+unfolding lentSample lentNco
+answers s =
+    record {
+      creation = λ r. (tt, new-answers r);
+      typing = λ byte carrier κs out. (tt, feed-answers s byte carrier κs out);
+      time = λ ns carrier. (tt, advance-time-answers s ns carrier);
+      forcing = (tt, force-data-mode-answers s);
+      filling = λ κs out. (tt, process-out-answers s κs out);
+      ring = (tt, ring-number-answers s);
+      cue = λ p. (tt, cue-answers s p);
+      writer = λ code κs out. (tt, writer-answers code κs out);
+      oscillator = λ nco outside. (rw outside, rw outside);
+    }

@@ -1,0 +1,2 @@
+-- Demand 1, from the contract of each call.
+pub mod Answers
