@@ -5,7 +5,7 @@ use native.Mathlib.Omega.{arith}
 use mathlib.Core.Path.{_≡_, refl}
 use mathlib.Core.List.{List}
 use mathlib.Core.Bool.{Bool, true, false, _&&_, and-eq-true-iff}
-use lib.Dec.{leb, ltb, eqb}
+use lib.Dec.{leb, eqb}
 use borrow.Author.Tests.{leb-true, leb-false, ltb-true, le-leb, lt-ltb}
 use Rattle.command.specs.declared.Command.{Command}
 use Rattle.command.specs.declared.Command.the-variants.{At, Atz, Ati, Ata, Ath, Ato, Atdt, Unknown}

@@ -1,5 +1,5 @@
 -- The claim is not empty: every list of calls, whatever is lent to them, has a trace, from every set. By the calls' definitions. Traces can be
--- joined, and what is consistent over a list is consistent over its parts. Assumes nothing.
+-- joined, and what is noted over a list is what is noted over its parts. Assumes nothing.
 use Prim.Native.Nat.{ℕ}
 use mathlib.Core.Path.{_≡_, refl, ap}
 use mathlib.Core.List.{List, [], _∷_, _++_, map}

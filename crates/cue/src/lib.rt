@@ -3,7 +3,7 @@ use set::Set;
 ghost use mathlib.Core.Path.{_≡_};
 ghost use Prim.Native.Nat.{_+_, _*_, _/_, _<_, _≤_};
 ghost use Rattle.math.specs.Float.{one};
-ghost use Rattle.schedule.specs.Time.{samplesIn};
+ghost use Rattle.schedule.specs.Time.{samplesIn, minRate, maxRate};
 ghost use Rattle.schedule.specs.Length.{clickTime};
 ghost use Rattle.cue.specs.Cue.{cueRefusalNumber, cueCause, CueIs};
 
@@ -34,7 +34,7 @@ impl Refusal {
 
 // The middle of a digit's tone: 0.05 s into it.
 fn cue_sample(position: u32, rate: u32) -> u64
-    requires { ⌜ (position < 76) × (8000 ≤ rate) × (rate ≤ 192000) ⌝ }
+    requires { ⌜ (position < 76) × (minRate ≤ rate) × (rate ≤ maxRate) ⌝ }
     ensures { λ m. ⌜ m ≡ samplesIn clickTime rate + samplesIn one rate + (20 * position + 5) * rate / 100 + 1 ⌝ }
 {
     let click = schedule::stage_samples_for(stage::OFF_HOOK_S, rate);

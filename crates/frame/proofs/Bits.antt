@@ -10,7 +10,7 @@ use lib.ListN.{length, getD, length-append, List·getD-append, List·getD-eq-def
 use lib.Dec.{ltb}
 use lib.Seq.{getD-append-add}
 use borrow.Author.Tests.{lt-ltb, le-ltb, ltb-true, ltb-false}
-use Rattle.frame.specs.Frame.{frameOf, framed, bitAt, ciPayload, cmJmPayload, cjPayload, trainingPayload}
+use Rattle.frame.specs.Frame.{frameOf, framed, bitAt}
 
 -- below the length nothing hangs on what stands for a missing element
 within : (l : List Bool) (k : ℕ) (d e : Bool) → k < length l → getD l k d ≡ getD l k e
@@ -56,16 +56,3 @@ module _ (p : List ℕ) (k : ℕ) where
       go : (t : Bool) → ltb (k / 10) (length p) ≡ t → t ≡ ltb k (length (framed p))
       go true e = sym (lt-ltb k (length (framed p)) (omega (arith, framed-length p, ltb-true (k / 10) (length p) e)))
       go false e = sym (le-ltb k (length (framed p)) (omega (arith, framed-length p, ltb-false (k / 10) (length p) e)))
-
--- how many bits each payload has: 60, 80 and 300 in the stages are all of them
-pub ci-length : length (framed ciPayload) ≡ 60
-ci-length = framed-length ciPayload
-
-pub cm-jm-length : length (framed cmJmPayload) ≡ 80
-cm-jm-length = framed-length cmJmPayload
-
-pub cj-length : length (framed cjPayload) ≡ 60
-cj-length = framed-length cjPayload
-
-pub training-length : length (framed trainingPayload) ≡ 300
-training-length = framed-length trainingPayload

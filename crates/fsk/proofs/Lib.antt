@@ -1,2 +1,3 @@
--- Laws on channels.
+-- Laws on channels and their payloads.
 pub mod Channel
+pub mod Payloads

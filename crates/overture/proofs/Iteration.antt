@@ -1,6 +1,6 @@
 -- Laws of the iteration: a + b samples are a and then b; one more is the last; a part of the buffer lent on is a step of it.
 -- By induction on the count. Assumes nothing.
-use Prim.Native.Nat.{ℕ, zero, suc, _+_, _-_, _≤_, _<_}
+use Prim.Native.Nat.{ℕ, zero, suc, _+_, _-_, _≤_}
 use native.Mathlib.Nat.{suc-add, zero-add}
 use native.Mathlib.Omega.{arith}
 use mathlib.Core.Path.{_≡_, refl, ap, _∙_}

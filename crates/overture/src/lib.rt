@@ -11,6 +11,7 @@ ghost use mathlib.Core.Bool.{true};
 ghost use mathlib.Core.List.{_++_};
 ghost use Prim.Native.Nat.{_≤_, _<_};
 ghost use lib.ListN.{length, drop};
+ghost use Rattle.schedule.specs.Length.{cjBits};
 ghost use Rattle.stage.specs.declared.StageState.the-variants.{OffHook, DialTone, Ringback, Ansam, Cj, Connected};
 ghost use Rattle.stage.specs.Next.{dialState, onward};
 ghost use Rattle.tones.specs.Mixed.{gatedOf, answerOf};
@@ -319,10 +320,10 @@ fn write_bits(fsk: FskChannel, payload: &[u8], total: u32, out: &mut [f32]) -> S
 
 // Cj's bits; where they end, its zeros are another call's.
 fn write_cj_bits(fsk: FskChannel, n: u32, digits: &[u8], rate: u32, out: &mut [f32]) -> Wrote
-    requires { ⌜ (fsk .done < 60) × (0 < length (now out)) ⌝ }
+    requires { ⌜ (fsk .done < cjBits) × (0 < length (now out)) ⌝ }
     ensures { λ w. ⌜ WroteIs (Cj fsk n) (now (digits .entry)) rate (now (out .entry)) (now (out .exit)) w ⌝ }
 {
-    let w = write_bits(fsk, &frame::CJ_PAYLOAD, 60, out);
+    let w = write_bits(fsk, &frame::CJ_PAYLOAD, schedule::CJ_BITS, out);
     let f = w.fsk;
     Wrote {
         state: StageState::Cj {
@@ -335,7 +336,7 @@ fn write_cj_bits(fsk: FskChannel, n: u32, digits: &[u8], rate: u32, out: &mut [f
 
 // Cj's zeros, once its bits are done.
 fn write_cj_silence(fsk: FskChannel, n: u32, digits: &[u8], rate: u32, out: &mut [f32]) -> Wrote
-    requires { ⌜ (60 ≤ fsk .done) × (0 < length (now out)) ⌝ }
+    requires { ⌜ (cjBits ≤ fsk .done) × (0 < length (now out)) ⌝ }
     ensures { λ w. ⌜ WroteIs (Cj fsk n) (now (digits .entry)) rate (now (out .entry)) (now (out .exit)) w ⌝ }
 {
     let end = schedule::stage_samples_for(stage::CJ_SILENCE_S, rate);
@@ -353,7 +354,7 @@ fn write_cj(fsk: FskChannel, n: u32, digits: &[u8], rate: u32, out: &mut [f32]) 
     requires { ⌜ 0 < length (now out) ⌝ }
     ensures { λ w. ⌜ WroteIs (Cj fsk n) (now (digits .entry)) rate (now (out .entry)) (now (out .exit)) w ⌝ }
 {
-    if fsk.done < 60 {
+    if fsk.done < schedule::CJ_BITS {
         return write_cj_bits(fsk, n, digits, rate, out);
     }
     write_cj_silence(fsk, n, digits, rate, out)
@@ -402,28 +403,38 @@ fn write_stage(state: StageState, digits: &[u8], rate: u32, out: &mut [f32]) -> 
             write_ringback(a, b, n, ring, digits, rate, out)
         }
         StageState::Ci(fsk) => {
-            let w = write_bits(fsk, &frame::CI_PAYLOAD, 60, out);
+            let w = write_bits(fsk, &frame::CI_PAYLOAD, schedule::CI_BITS, out);
             let f = w.fsk;
             Wrote {
-                state: next_state(f.done >= 60, StageState::Ci(f), digits, rate),
+                state: next_state(f.done >= schedule::CI_BITS, StageState::Ci(f), digits, rate),
                 written: w.written,
             }
         }
         StageState::Ansam { carrier, env, n } => write_ansam(carrier, env, n, digits, rate, out),
         StageState::CmJm(fsk) => {
-            let w = write_bits(fsk, &frame::CMJM_PAYLOAD, 80, out);
+            let w = write_bits(fsk, &frame::CMJM_PAYLOAD, schedule::CMJM_BITS, out);
             let f = w.fsk;
             Wrote {
-                state: next_state(f.done >= 80, StageState::CmJm(f), digits, rate),
+                state: next_state(
+                    f.done >= schedule::CMJM_BITS,
+                    StageState::CmJm(f),
+                    digits,
+                    rate,
+                ),
                 written: w.written,
             }
         }
         StageState::Cj { fsk, silence_n } => write_cj(fsk, silence_n, digits, rate, out),
         StageState::Training(fsk) => {
-            let w = write_bits(fsk, &frame::TRAINING_PAYLOAD, 300, out);
+            let w = write_bits(fsk, &frame::TRAINING_PAYLOAD, schedule::TRAINING_BITS, out);
             let f = w.fsk;
             Wrote {
-                state: next_state(f.done >= 300, StageState::Training(f), digits, rate),
+                state: next_state(
+                    f.done >= schedule::TRAINING_BITS,
+                    StageState::Training(f),
+                    digits,
+                    rate,
+                ),
                 written: w.written,
             }
         }

@@ -1,7 +1,7 @@
 -- A call that is lent the front of a buffer: it is made where the front is no longer than the buffer. Assumes nothing.
 use Prim.Native.Nat.{ℕ, _-_, _<_, _≤_}
 use mathlib.Core.List.{List}
-use mathlib.Core.Path.{_≡_, ap, _∙_}
+use mathlib.Core.Path.{_≡_, ap}
 use native.Mathlib.Nat.{sub-zero}
 use borrow.Author.Tests.{le-leb, lt-leb}
 use lib.Dec.{leb}

@@ -2,7 +2,7 @@
 -- As in 01's example, the fields are in decimal, with commas between them, and a line feed ends the line.
 use Prim.Native.Nat.{ℕ}
 use mathlib.Core.Bool.{Bool, true, false}
-use mathlib.Core.List.{List, [], _∷_, _++_}
+use mathlib.Core.List.{List, _++_}
 use Rattle.ascii.specs.Ascii.{ascii}
 use Rattle.text.specs.Digits.{decimalOf}
 use Rattle.report.specs.declared.Report.{Report}

@@ -37,6 +37,19 @@ unfoldable pub diallingLength : ℕ → ℕ → ℕ
 diallingLength r zero = 1
 diallingLength r (suc d) = firstFrom (λ n. leb (suc d) (digitAt (timeAt r n))) 4000000 (leb (suc d) (digitAt (timeAt r 1))) 1
 
+-- the bits of each payload, ten a byte: CICICI, CMJMCMJM, CJCJCJ, and thirty bytes
+abbrev pub ciBits : ℕ
+ciBits = 60
+
+abbrev pub cmJmBits : ℕ
+cmJmBits = 80
+
+abbrev pub cjBits : ℕ
+cjBits = 60
+
+abbrev pub trainingBits : ℕ
+trainingBits = 300
+
 -- the samples of each of the stages 1 to 9, in their order
 abbrev pub stageLengths : ℕ → ℕ → List ℕ
 stageLengths r d =
@@ -44,11 +57,11 @@ stageLengths r d =
     ∷ samplesIn one r
     ∷ diallingLength r d
     ∷ samplesIn ringbackTime r
-    ∷ bitsLength r 60
+    ∷ bitsLength r ciBits
     ∷ samplesIn ansamTime r
-    ∷ bitsLength r 80
-    ∷ (bitsLength r 60 + samplesIn cjSilence r)
-    ∷ bitsLength r 300
+    ∷ bitsLength r cmJmBits
+    ∷ (bitsLength r cjBits + samplesIn cjSilence r)
+    ∷ bitsLength r trainingBits
     ∷ []
 
 abbrev pub sumFrom : ℕ → List ℕ → ℕ

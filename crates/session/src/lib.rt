@@ -6,6 +6,7 @@ use stage::StageState;
 ghost use mathlib.Core.Path.{_≡_};
 ghost use Prim.Native.Nat.{_≤_};
 ghost use lib.ListN.{length, take};
+ghost use Rattle.schedule.specs.Time.{minRate, maxRate};
 ghost use Rattle.schedule.specs.Length.{total};
 ghost use Rattle.schedule.specs.Bounds.{TotalBounds};
 ghost use Rattle.passage.specs.Overture.{HasLength};
@@ -116,8 +117,8 @@ impl Session {
     // Starts the overture for the line's bytes after ATDT. At a rate of 01 it has one length, T, with demand 3's bounds.
     pub fn dial(line: &[u8], rate: u32) -> Session
         ensures { λ r. ⌜ r ≡ dialling (now (line .entry)) rate ⌝ }
-        ensures { λ r. ⌜ (8000 ≤ rate → rate ≤ 192000 → HasLength (digitsHeld r) rate (total rate (r .digits .len))) ⌝ }
-        ensures { λ r. ⌜ (8000 ≤ rate → rate ≤ 192000 → TotalBounds rate (r .digits .len)) ⌝ }
+        ensures { λ r. ⌜ (minRate ≤ rate → rate ≤ maxRate → HasLength (digitsHeld r) rate (total rate (r .digits .len))) ⌝ }
+        ensures { λ r. ⌜ (minRate ≤ rate → rate ≤ maxRate → TotalBounds rate (r .digits .len)) ⌝ }
     {
         let digits = keys::dialled(line);
         let keys = digits.keys;

@@ -37,11 +37,5 @@ module _ (s : Set) (h : sound s ≡ true) where
   pub sound-digits : s .session .digits .len ≤ 76
   sound-digits = ranges s h .digits
 
-  pub sound-processor : processor.sound (s .processor) ≡ true
-  sound-processor = ranges s h .processor
-
-  pub sound-count : s .session .m ≤ 5000000
-  sound-count = ranges s h .count
-
   pub sound-rate : (8000 ≤ s .rate) × (s .rate ≤ 192000)
   sound-rate = let p = sound-parts _ _ _ (ranges s h .state) in (rate-low (s .rate) (p .rate), rate-high (s .rate) (p .rate))

@@ -1,4 +1,4 @@
--- 01, "The list of demand 3": the book, consistent from the rate r, the calls and their arguments alone. It never reads the set.
+-- 01, "The list of demand 3": the book, kept from the rate r, the calls and their arguments alone. It never reads the set.
 use Prim.Native.Nat.{ℕ, zero, suc, _+_}
 use mathlib.Core.Bool.{Bool, true, false}
 use mathlib.Core.List.{List, []}

@@ -1,4 +1,4 @@
--- 01, "When a call is declined": which sets are sound. The state's own ranges, the rate's limits and that all digits are keys are `sound`'s,
+-- 01, "When a call is declined": which sets are sound. The state's own ranges, the rate's limits and that all digits are keys are `soundness`'s,
 -- the line, the pluses and the down time `at`'s.
 use mathlib.Core.Bool.{Bool, _&&_}
 use lib.Dec.{leb}

@@ -11,7 +11,7 @@ use Rattle.nco.specs.Nco.{phaseInRange}
 use Rattle.keys.specs.Keys.{allKeys}
 use Rattle.schedule.specs.Time.{minRate, maxRate, samplesIn}
 use Rattle.schedule.specs.Symbols.{symbolStep, inSymbol}
-use Rattle.schedule.specs.Length.{clickTime, ringbackTime, ansamTime, cjSilence, diallingLength}
+use Rattle.schedule.specs.Length.{clickTime, ringbackTime, ansamTime, cjSilence, ciBits, cmJmBits, cjBits, trainingBits, diallingLength}
 use Rattle.fsk.specs.declared.Modulator.{Modulator}
 use Rattle.fsk.specs.declared.FskChannel.{FskChannel}
 use Rattle.stage.specs.declared.StageState.{StageState}
@@ -58,7 +58,7 @@ bitsOk f N r = modulatorOk (f .modulator) r && ltb (f .done) N
 
 -- Cj zeros below the stage's own end, but Cj's bits may all be done
 unfoldable pub cjOk : FskChannel → ℕ → ℕ → Bool
-cjOk f z r = modulatorOk (f .modulator) r && (leb (f .done) 60 && ltb z (samplesIn cjSilence r))
+cjOk f z r = modulatorOk (f .modulator) r && (leb (f .done) cjBits && ltb z (samplesIn cjSilence r))
 
 -- a state by its kind, of d digits at the rate r; the click's noise is any number
 unfoldable pub stateOk : StageState → ℕ → ℕ → Bool
@@ -66,11 +66,11 @@ stateOk (OffHook rng n) d r = ltb n (samplesIn clickTime r)
 stateOk (DialTone a b n) d r = tonesOk a b n one r
 stateOk (Dialling i on a b n) d r = diallingOk i a b n d r
 stateOk (Ringback a b n ring) d r = ringbackOk a b n ring r
-stateOk (Ci f) d r = bitsOk f 60 r
+stateOk (Ci f) d r = bitsOk f ciBits r
 stateOk (Ansam carrier env n) d r = tonesOk carrier env n ansamTime r
-stateOk (CmJm f) d r = bitsOk f 80 r
+stateOk (CmJm f) d r = bitsOk f cmJmBits r
 stateOk (Cj f z) d r = cjOk f z r
-stateOk (Training f) d r = bitsOk f 300 r
+stateOk (Training f) d r = bitsOk f trainingBits r
 stateOk Connected d r = true
 
 -- with the digits and the rate that it is judged by

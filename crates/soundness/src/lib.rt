@@ -17,14 +17,6 @@ ghost use Rattle.soundness.specs.Sound.{rateOk, digitsOk, ncoOk, modulat
 
 const MAX_DIGITS: usize = 76;
 
-const CI_BITS: u32 = 60;
-
-const CMJM_BITS: u32 = 80;
-
-const CJ_BITS: u32 = 60;
-
-const TRAINING_BITS: u32 = 300;
-
 // Rate in limits.
 pub fn rate_ok(rate: u32) -> bool
     ensures { λ r. ⌜ r ≡ rateOk rate ⌝ }
@@ -126,7 +118,8 @@ fn cj_ok(fsk: FskChannel, silence: u32, rate: u32) -> bool
     ensures { λ r. ⌜ r ≡ cjOk fsk silence rate ⌝ }
 {
     let m = fsk.modulator;
-    modulator_ok(m, rate) & ((fsk.done <= CJ_BITS) & goes_on(silence, stage::CJ_SILENCE_S, rate))
+    modulator_ok(m, rate)
+        & ((fsk.done <= schedule::CJ_BITS) & goes_on(silence, stage::CJ_SILENCE_S, rate))
 }
 
 // A state by its kind, once rate and digits are known to be in their limits.
@@ -146,11 +139,11 @@ fn state_ok(state: StageState, d: u64, rate: u32) -> bool
             n,
         } => dialling_ok(digit_i, a, b, n, d, rate),
         StageState::Ringback { a, b, n, ring } => ringback_ok(a, b, n, ring, rate),
-        StageState::Ci(fsk) => bits_ok(fsk, CI_BITS, rate),
+        StageState::Ci(fsk) => bits_ok(fsk, schedule::CI_BITS, rate),
         StageState::Ansam { carrier, env, n } => tones_ok(carrier, env, n, stage::ANSAM_S, rate),
-        StageState::CmJm(fsk) => bits_ok(fsk, CMJM_BITS, rate),
+        StageState::CmJm(fsk) => bits_ok(fsk, schedule::CMJM_BITS, rate),
         StageState::Cj { fsk, silence_n } => cj_ok(fsk, silence_n, rate),
-        StageState::Training(fsk) => bits_ok(fsk, TRAINING_BITS, rate),
+        StageState::Training(fsk) => bits_ok(fsk, schedule::TRAINING_BITS, rate),
         StageState::Connected => true,
     }
 }

@@ -10,7 +10,7 @@ use Rattle.frame.specs.Frame.{ciPayload, cmJmPayload, cjPayload, trainingPayloa
 use Rattle.schedule.specs.Time.{timeAt, samplesIn, saturatingInc}
 use Rattle.schedule.specs.Ringback.{ringAt, ringTime, ringTone}
 use Rattle.schedule.specs.Ansam.{signAt}
-use Rattle.schedule.specs.Length.{clickTime, ringbackTime, ansamTime, cjSilence}
+use Rattle.schedule.specs.Length.{clickTime, ringbackTime, ansamTime, cjSilence, ciBits, cmJmBits, cjBits, trainingBits}
 use Rattle.fsk.specs.declared.FskChannel.{FskChannel}
 use Rattle.fsk.specs.Channel.{channelSample, nextChannel}
 use Rattle.tones.specs.declared.Dial.{Dial}
@@ -64,7 +64,7 @@ ringbackOf a b n r =
 
 -- 5
 unfoldable pub ciOf : FskChannel → Generated
-ciOf f = record { sample = channelSample f; state = Ci (nextChannel f ciPayload); finished = leb 60 (nextChannel f ciPayload .done) }
+ciOf f = record { sample = channelSample f; state = Ci (nextChannel f ciPayload); finished = leb ciBits (nextChannel f ciPayload .done) }
 
 -- 6
 unfoldable pub ansamOf : Nco → Nco → ℕ → ℕ → Generated
@@ -74,7 +74,7 @@ ansamOf carrier env n r =
 
 -- 7
 unfoldable pub cmJmOf : FskChannel → Generated
-cmJmOf f = record { sample = channelSample f; state = CmJm (nextChannel f cmJmPayload); finished = leb 80 (nextChannel f cmJmPayload .done) }
+cmJmOf f = record { sample = channelSample f; state = CmJm (nextChannel f cmJmPayload); finished = leb cmJmBits (nextChannel f cmJmPayload .done) }
 
 -- 8: its bits, and once all are done its zeros
 unfoldable pub cjAt : Bool → FskChannel → ℕ → ℕ → Generated
@@ -82,11 +82,11 @@ cjAt true f z r = record { sample = zero; state = Cj f (saturatingInc z); finish
 cjAt false f z r = record { sample = channelSample f; state = Cj (nextChannel f cjPayload) z; finished = false }
 
 unfoldable pub cjOf : FskChannel → ℕ → ℕ → Generated
-cjOf f z r = cjAt (leb 60 (f .done)) f z r
+cjOf f z r = cjAt (leb cjBits (f .done)) f z r
 
 -- 9
 unfoldable pub trainingOf : FskChannel → Generated
-trainingOf f = record { sample = channelSample f; state = Training (nextChannel f trainingPayload); finished = leb 300 (nextChannel f trainingPayload .done) }
+trainingOf f = record { sample = channelSample f; state = Training (nextChannel f trainingPayload); finished = leb trainingBits (nextChannel f trainingPayload .done) }
 
 -- 10
 unfoldable pub connectedOf : Generated
