@@ -1,0 +1,22 @@
+-- `gibbonplate_cue_in` meets its contract: read from what was loaded. Assumes nothing.
+use borrow.Author.Needs.{needs}
+use Rattle.gibbonplate.proofs.gibbonplate_cue_in.Statement.{statement}
+use Rattle.gibbonplate.proofs.gibbonplate_cue_in.Tie as tie
+
+load-requires : tie.Need-load-requires
+load-requires c κs = search needs
+
+cue-requires : tie.Need-cue-requires
+cue-requires c κs = search needs
+
+number-requires : tie.Need-number-requires
+number-requires c κs = search needs
+
+returns : tie.Need-returns
+returns c =
+    let s = c .before .before .load .ensures .0 in
+    let a = c .before .cue .ensures in
+    record { refusal = rw (c .number .ensures, a .refusal, s); sample = rw (← s, ← a .refusal) a }
+
+pub gibbonplate-cue-in-spec : {M : Type 1} → statement M
+gibbonplate-cue-in-spec = tie.close (tie.spec load-requires cue-requires number-requires returns)

@@ -1,0 +1,18 @@
+-- `memory::no_set` meets its contract. Assumes nothing.
+use borrow.Author.Needs.{needs}
+use Rattle.gibbonplate.proofs.memory.no_set.Statement.{statement}
+use Rattle.gibbonplate.proofs.memory.no_set.Tie as tie
+use Rattle.at.proofs.AtProcessor.new.Reads as AtProcessor-new-reads
+use Rattle.session.proofs.Session.new.Reads as Session-new-reads
+
+new-requires : tie.Need-new-requires
+new-requires c κs = search needs
+
+new-requires-2 : tie.Need-new-requires-2
+new-requires-2 c κs = search needs
+
+returns : tie.Need-returns
+returns c = rw (c .new2 .ensures, c .before .new .ensures)
+
+pub no-set-spec : {M : Type 1} → statement M
+no-set-spec = tie.close (tie.spec new-requires new-requires-2 returns)

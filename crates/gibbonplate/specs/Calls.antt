@@ -1,0 +1,61 @@
+-- The calls of the set from memory: each is the set's call between a load and a store. What is lent beside the memory is named before and
+-- after the call.
+use Prim.Native.Nat.{ℕ}
+use mathlib.Core.Path.{_≡_}
+use mathlib.Core.Bool.{Bool, cond}
+use mathlib.Core.List.{List, [], _∷_}
+use lib.Dec.{leb}
+use lib.Ieee.{Float}
+use lib.ListN.{length}
+use Rattle.reply.specs.declared.Reply.{Reply}
+use Rattle.reply.specs.Codes.{firstOf, secondOf}
+use Rattle.set.specs.Refusals.{refusalNumber}
+use Rattle.set.specs.declared.Set.{Set}
+use Rattle.set.specs.Set.{made, typed, outbox, lapsed, forced, fill, buffer, rung}
+use Rattle.cue.specs.Cue.{CueIs, cueCause, cueRefusalNumber}
+use Rattle.gibbonplate.specs.Memory.{Memory, stored, loaded, kept}
+
+-- creation: a declined one leaves a fresh set too
+pub record NewCall (after : Memory) (rate number : ℕ) : Type 0 where
+  pub refusal : number ≡ refusalNumber (made rate .refusal)
+  pub memory : after ≡ stored (made rate .set)
+
+abbrev pub codesOf : Reply → List ℕ
+codesOf reply = firstOf reply ∷ secondOf reply ∷ []
+
+pub record FeedCall (before after : Memory) (byte : ℕ) (carrier : Bool) (was is given : List ℕ) (count number : ℕ) : Type 0 where
+  pub refusal : number ≡ refusalNumber (typed (loaded before) byte carrier (length was) .refusal)
+  pub memory : after ≡ kept number (typed (loaded before) byte carrier (length was) .set) before
+  pub outbox : is ≡ outbox (loaded before) byte was
+  pub codes : given ≡ codesOf (typed (loaded before) byte carrier (length was) .reply)
+  pub sent : count ≡ typed (loaded before) byte carrier (length was) .sent
+
+pub record TimeCall (before after : Memory) (ns : ℕ) (carrier : Bool) (given : List ℕ) (number : ℕ) : Type 0 where
+  pub refusal : number ≡ refusalNumber (lapsed (loaded before) ns carrier .refusal)
+  pub memory : after ≡ kept number (lapsed (loaded before) ns carrier .set) before
+  pub codes : given ≡ codesOf (lapsed (loaded before) ns carrier .reply)
+
+pub record ForceCall (before after : Memory) (number : ℕ) : Type 0 where
+  pub refusal : number ≡ refusalNumber (forced (loaded before) .refusal)
+  pub memory : after ≡ kept number (forced (loaded before) .set) before
+
+pub record FillCall (before after : Memory) (was is : List Float) (number : ℕ) : Type 0 where
+  pub refusal : number ≡ refusalNumber (fill (loaded before) (length was) .refusal)
+  pub memory : after ≡ kept number (fill (loaded before) (length was) .set) before
+  pub samples : is ≡ buffer (loaded before) was
+
+pub record RingCall (before : Memory) (value number : ℕ) : Type 0 where
+  pub refusal : number ≡ refusalNumber (rung (loaded before) .refusal)
+  pub ring : value ≡ rung (loaded before) .ring
+
+pub record CueCall (before : Memory) (position value number : ℕ) : Type 0 where
+  pub refusal : number ≡ cueRefusalNumber (cueCause (loaded before) position)
+  pub sample : CueIs (loaded before) position (record { refusal = cueCause (loaded before) position; sample = value })
+
+-- C in command mode, D in data mode
+abbrev pub letter : Bool → ℕ
+letter command = cond command 67 68
+
+-- as many of the keys as are the digits; none where a set that is unsound has more than there are places
+abbrev pub heldCount : ℕ → ℕ
+heldCount len = cond (leb len 76) len 0

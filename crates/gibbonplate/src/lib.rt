@@ -1,0 +1,289 @@
+// The set for C programs, under the names of include/gibbonplate.h. A set lies in memory that the caller lends: six arrays, which the
+// header has in one struct. Each function here is the set's call between a load and a store, and a declined call leaves the memory as it was.
+use set::Set;
+ghost use mathlib.Core.Path.{_≡_};
+ghost use mathlib.Core.Bool.{cond};
+ghost use lib.ListN.{length};
+ghost use Rattle.ascii.specs.Front.{put, putLength};
+ghost use Rattle.reply.specs.Texts.{textOf};
+ghost use Rattle.at.specs.Processor.{commandMode};
+ghost use Rattle.session.specs.Session.{stateNumber};
+ghost use Rattle.gibbonplate.specs.Memory.{memory, loaded};
+ghost use Rattle.gibbonplate.specs.Calls.{NewCall, FeedCall, TimeCall, ForceCall, FillCall, RingCall, CueCall, letter, heldCount};
+
+mod memory;
+mod plain;
+
+#[no_mangle]
+pub extern "C" fn gibbonplate_new_in(
+    longs: &mut [u64; 5],
+    counts: &mut [u32; 4],
+    reals: &mut [f64; 6],
+    marks: &mut [u8; 8],
+    line: &mut [u8; 80],
+    keys: &mut [u8; 76],
+    rate: u32,
+) -> u8
+    ensures { λ r. ⌜ NewCall (memory (now (longs .exit)) (now (counts .exit)) (now (reals .exit)) (now (marks .exit)) (now (line .exit)) (now (keys .exit))) rate r ⌝ }
+{
+    let made = Set::new(rate);
+    let set = made.set;
+    let refusal = made.refusal;
+    memory::store(set, longs, counts, reals, marks, line, keys);
+    refusal.number()
+}
+
+#[no_mangle]
+pub extern "C" fn gibbonplate_feed_in(
+    longs: &mut [u64; 5],
+    counts: &mut [u32; 4],
+    reals: &mut [f64; 6],
+    marks: &mut [u8; 8],
+    line: &mut [u8; 80],
+    keys: &mut [u8; 76],
+    byte: u8,
+    carrier: bool,
+    out: &mut [u8],
+    codes: &mut [u8; 2],
+    sent: &mut usize,
+) -> u8
+    ensures { λ r. ⌜ FeedCall (memory (now (longs .entry)) (now (counts .entry)) (now (reals .entry)) (now (marks .entry)) (now (line .entry)) (now (keys .entry))) (memory (now (longs .exit)) (now (counts .exit)) (now (reals .exit)) (now (marks .exit)) (now (line .exit)) (now (keys .exit))) byte carrier (now (out .entry)) (now (out .exit)) (now (codes .exit)) (now (sent .exit)) r ⌝ }
+{
+    let set = memory::load(longs, counts, reals, marks, line, keys);
+    let typed = set.feed(byte, carrier, out);
+    let after = typed.set;
+    let reply = typed.reply;
+    let refusal = typed.refusal;
+    let number = refusal.number();
+    *codes = [reply.first(), reply.second()];
+    *sent = typed.sent;
+    memory::keep(number, after, longs, counts, reals, marks, line, keys);
+    number
+}
+
+#[no_mangle]
+pub extern "C" fn gibbonplate_advance_time_in(
+    longs: &mut [u64; 5],
+    counts: &mut [u32; 4],
+    reals: &mut [f64; 6],
+    marks: &mut [u8; 8],
+    line: &mut [u8; 80],
+    keys: &mut [u8; 76],
+    ns: u64,
+    carrier: bool,
+    codes: &mut [u8; 2],
+) -> u8
+    ensures { λ r. ⌜ TimeCall (memory (now (longs .entry)) (now (counts .entry)) (now (reals .entry)) (now (marks .entry)) (now (line .entry)) (now (keys .entry))) (memory (now (longs .exit)) (now (counts .exit)) (now (reals .exit)) (now (marks .exit)) (now (line .exit)) (now (keys .exit))) ns carrier (now (codes .exit)) r ⌝ }
+{
+    let set = memory::load(longs, counts, reals, marks, line, keys);
+    let lapsed = set.advance_time(ns, carrier);
+    let after = lapsed.set;
+    let reply = lapsed.reply;
+    let refusal = lapsed.refusal;
+    let number = refusal.number();
+    *codes = [reply.first(), reply.second()];
+    memory::keep(number, after, longs, counts, reals, marks, line, keys);
+    number
+}
+
+#[no_mangle]
+pub extern "C" fn gibbonplate_force_data_mode_in(
+    longs: &mut [u64; 5],
+    counts: &mut [u32; 4],
+    reals: &mut [f64; 6],
+    marks: &mut [u8; 8],
+    line: &mut [u8; 80],
+    keys: &mut [u8; 76],
+) -> u8
+    ensures { λ r. ⌜ ForceCall (memory (now (longs .entry)) (now (counts .entry)) (now (reals .entry)) (now (marks .entry)) (now (line .entry)) (now (keys .entry))) (memory (now (longs .exit)) (now (counts .exit)) (now (reals .exit)) (now (marks .exit)) (now (line .exit)) (now (keys .exit))) r ⌝ }
+{
+    let set = memory::load(longs, counts, reals, marks, line, keys);
+    let forced = set.force_data_mode();
+    let after = forced.set;
+    let refusal = forced.refusal;
+    let number = refusal.number();
+    memory::keep(number, after, longs, counts, reals, marks, line, keys);
+    number
+}
+
+#[no_mangle]
+pub extern "C" fn gibbonplate_process_out_in(
+    longs: &mut [u64; 5],
+    counts: &mut [u32; 4],
+    reals: &mut [f64; 6],
+    marks: &mut [u8; 8],
+    line: &mut [u8; 80],
+    keys: &mut [u8; 76],
+    samples: &mut [f32],
+) -> u8
+    ensures { λ r. ⌜ FillCall (memory (now (longs .entry)) (now (counts .entry)) (now (reals .entry)) (now (marks .entry)) (now (line .entry)) (now (keys .entry))) (memory (now (longs .exit)) (now (counts .exit)) (now (reals .exit)) (now (marks .exit)) (now (line .exit)) (now (keys .exit))) (now (samples .entry)) (now (samples .exit)) r ⌝ }
+{
+    let set = memory::load(longs, counts, reals, marks, line, keys);
+    let filled = set.process_out(samples);
+    let after = filled.set;
+    let refusal = filled.refusal;
+    let number = refusal.number();
+    memory::keep(number, after, longs, counts, reals, marks, line, keys);
+    number
+}
+
+#[no_mangle]
+pub extern "C" fn gibbonplate_ring_in(
+    longs: &[u64; 5],
+    counts: &[u32; 4],
+    reals: &[f64; 6],
+    marks: &[u8; 8],
+    line: &[u8; 80],
+    keys: &[u8; 76],
+    ring: &mut u8,
+) -> u8
+    ensures { λ r. ⌜ RingCall (memory (now (longs .entry)) (now (counts .entry)) (now (reals .entry)) (now (marks .entry)) (now (line .entry)) (now (keys .entry))) (now (ring .exit)) r ⌝ }
+{
+    let set = memory::load(longs, counts, reals, marks, line, keys);
+    let rung = set.ring_number();
+    *ring = rung.ring;
+    let refusal = rung.refusal;
+    refusal.number()
+}
+
+#[no_mangle]
+pub extern "C" fn gibbonplate_cue_in(
+    longs: &[u64; 5],
+    counts: &[u32; 4],
+    reals: &[f64; 6],
+    marks: &[u8; 8],
+    line: &[u8; 80],
+    keys: &[u8; 76],
+    position: u32,
+    sample: &mut u64,
+) -> u8
+    ensures { λ r. ⌜ CueCall (memory (now (longs .entry)) (now (counts .entry)) (now (reals .entry)) (now (marks .entry)) (now (line .entry)) (now (keys .entry))) position (now (sample .exit)) r ⌝ }
+{
+    let set = memory::load(longs, counts, reals, marks, line, keys);
+    let cued = cue::cue(set, position);
+    *sample = cued.sample;
+    let refusal = cued.refusal;
+    refusal.number()
+}
+
+fn letter(command: bool) -> u8
+    ensures { λ r. ⌜ r ≡ letter command ⌝ }
+{
+    if command {
+        return b'C';
+    }
+    b'D'
+}
+
+fn held_count(len: usize) -> usize
+    ensures { λ r. ⌜ r ≡ heldCount len ⌝ }
+{
+    if len <= 76 {
+        return len;
+    }
+    0
+}
+
+#[no_mangle]
+pub extern "C" fn gibbonplate_mode_in(
+    longs: &[u64; 5],
+    counts: &[u32; 4],
+    reals: &[f64; 6],
+    marks: &[u8; 8],
+    line: &[u8; 80],
+    keys: &[u8; 76],
+) -> u8
+    ensures { λ r. ⌜ r ≡ letter (commandMode (loaded (memory (now (longs .entry)) (now (counts .entry)) (now (reals .entry)) (now (marks .entry)) (now (line .entry)) (now (keys .entry))) .processor)) ⌝ }
+{
+    let set = memory::load(longs, counts, reals, marks, line, keys);
+    letter(set.in_command_mode())
+}
+
+#[no_mangle]
+pub extern "C" fn gibbonplate_state_in(
+    longs: &[u64; 5],
+    counts: &[u32; 4],
+    reals: &[f64; 6],
+    marks: &[u8; 8],
+    line: &[u8; 80],
+    keys: &[u8; 76],
+) -> u8
+    ensures { λ r. ⌜ r ≡ stateNumber (loaded (memory (now (longs .entry)) (now (counts .entry)) (now (reals .entry)) (now (marks .entry)) (now (line .entry)) (now (keys .entry))) .session .state) ⌝ }
+{
+    let set = memory::load(longs, counts, reals, marks, line, keys);
+    let state = set.state();
+    state.number()
+}
+
+#[no_mangle]
+pub extern "C" fn gibbonplate_stage_in(
+    longs: &[u64; 5],
+    counts: &[u32; 4],
+    reals: &[f64; 6],
+    marks: &[u8; 8],
+    line: &[u8; 80],
+    keys: &[u8; 76],
+) -> u8
+    ensures { λ r. ⌜ r ≡ loaded (memory (now (longs .entry)) (now (counts .entry)) (now (reals .entry)) (now (marks .entry)) (now (line .entry)) (now (keys .entry))) .session .shown ⌝ }
+{
+    let set = memory::load(longs, counts, reals, marks, line, keys);
+    set.stage()
+}
+
+#[no_mangle]
+pub extern "C" fn gibbonplate_m_in(
+    longs: &[u64; 5],
+    counts: &[u32; 4],
+    reals: &[f64; 6],
+    marks: &[u8; 8],
+    line: &[u8; 80],
+    keys: &[u8; 76],
+) -> u32
+    ensures { λ r. ⌜ r ≡ loaded (memory (now (longs .entry)) (now (counts .entry)) (now (reals .entry)) (now (marks .entry)) (now (line .entry)) (now (keys .entry))) .session .m ⌝ }
+{
+    let set = memory::load(longs, counts, reals, marks, line, keys);
+    set.m()
+}
+
+#[no_mangle]
+pub extern "C" fn gibbonplate_rate_in(
+    longs: &[u64; 5],
+    counts: &[u32; 4],
+    reals: &[f64; 6],
+    marks: &[u8; 8],
+    line: &[u8; 80],
+    keys: &[u8; 76],
+) -> u32
+    ensures { λ r. ⌜ r ≡ loaded (memory (now (longs .entry)) (now (counts .entry)) (now (reals .entry)) (now (marks .entry)) (now (line .entry)) (now (keys .entry))) .rate ⌝ }
+{
+    let set = memory::load(longs, counts, reals, marks, line, keys);
+    set.rate()
+}
+
+#[no_mangle]
+pub extern "C" fn gibbonplate_digits_in(
+    longs: &[u64; 5],
+    counts: &[u32; 4],
+    reals: &[f64; 6],
+    marks: &[u8; 8],
+    line: &[u8; 80],
+    keys: &[u8; 76],
+    digits: &mut [u8; 76],
+) -> usize
+    ensures { λ r. ⌜ r ≡ heldCount (loaded (memory (now (longs .entry)) (now (counts .entry)) (now (reals .entry)) (now (marks .entry)) (now (line .entry)) (now (keys .entry))) .session .digits .len) ⌝ }
+    ensures { λ _. ⌜ now (digits .exit) ≡ loaded (memory (now (longs .entry)) (now (counts .entry)) (now (reals .entry)) (now (marks .entry)) (now (line .entry)) (now (keys .entry))) .session .digits .keys ⌝ }
+{
+    let set = memory::load(longs, counts, reals, marks, line, keys);
+    let held = set.digits();
+    let places = held.keys;
+    *digits = places;
+    held_count(held.len)
+}
+
+#[no_mangle]
+pub extern "C" fn gibbonplate_write_reply(code: u8, out: &mut [u8]) -> usize
+    ensures { λ r. ⌜ r ≡ putLength (textOf code) (length (now (out .entry))) ⌝ }
+    ensures { λ _. ⌜ now (out .exit) ≡ put (textOf code) (now (out .entry)) ⌝ }
+{
+    reply::write_reply(code, out)
+}

@@ -1,0 +1,220 @@
+/*
+ * Gibbonplate: the calling set of a modem, for C and C++ programs.
+ *
+ * A set takes typed bytes, lapses of time and sample buffers. It gives replies, the bytes to send, the
+ * sound of a dialled call sample by sample, and the stage of that call. It lies in memory that you
+ * lend, one gibbonplate_set, which only the functions below write. They allocate nothing, hold nothing
+ * between calls, print nothing, wait for nothing and call nobody, so an audio callback may call them.
+ *
+ *     gibbonplate_set set;
+ *     gibbonplate_new(&set, 48000);              // then, in the order in which things happen:
+ *     gibbonplate_feed(&set, 'A', ...);          // a byte is typed
+ *     gibbonplate_advance_time(&set, ns, ...);   // time passes
+ *     gibbonplate_process_out(&set, buffer, n);  // the card wants samples
+ *
+ * Every call answers. A call that is declined answers one of the numbers of gibbonplate_refusal, and
+ * leaves the set and every buffer as they were. Memory that holds no set, or one that no calls can
+ * reach, is declined with 6 by every call but the plain readers. All of this is proved, for every
+ * content of the memory (docs/PROOF.md). What the proof takes for granted is yours to see to:
+ *
+ *   - Each pointer is to memory of its type, as long as the call is told, and may be written where it
+ *     is not const. None is null, but that of a buffer of length 0 may be.
+ *   - What is lent to one call does not overlap: set, outbox, buffer, answer.
+ *   - One call at a time on one set, and each call gets the set as the one before left it. Two sets
+ *     have nothing to do with each other. Assigning a set copies it.
+ *   - A bool is 0 or 1, as every C expression of the type is.
+ *   - The program is for x86-64, and is linked with libgibbonplate.a, which `rt staticlib gibbonplate`
+ *     writes to target/staticlib.
+ */
+#ifndef GIBBONPLATE_H
+#define GIBBONPLATE_H
+
+#include <stdbool.h>
+#include <stddef.h>
+#include <stdint.h>
+
+#ifdef __cplusplus
+extern "C" {
+#endif
+
+/* A set. Its contents are the library's business. */
+typedef struct gibbonplate_set {
+    uint64_t longs[5];
+    uint32_t counts[4];
+    double reals[6];
+    uint8_t marks[8];
+    uint8_t line[80];
+    uint8_t keys[76];
+} gibbonplate_set;
+
+/* Why a call was declined. */
+enum gibbonplate_refusal {
+    GIBBONPLATE_ACCEPTED = 0,
+    GIBBONPLATE_BAD_RATE = 1,      /* creation: a rate outside 8,000 to 192,000 */
+    GIBBONPLATE_SHORT_OUTBOX = 2,  /* a typed byte: an outbox under 4 bytes */
+    GIBBONPLATE_LONG_FILL = 3,     /* a fill of over 65,536 samples */
+    GIBBONPLATE_LINE_FULL = 4,     /* a typed byte: the line has 80 bytes, and this is neither CR nor LF */
+    GIBBONPLATE_LINE_UP = 5,       /* a fill in state 3 */
+    GIBBONPLATE_UNSOUND = 6,       /* the memory holds no set that calls can reach */
+    GIBBONPLATE_BAD_POSITION = 7   /* a cue: nothing is being dialled, or it has no such digit */
+};
+
+/* The states. */
+enum {
+    GIBBONPLATE_IDLE = 0,
+    GIBBONPLATE_DIALLING = 1,
+    GIBBONPLATE_ANSWERING = 2,
+    GIBBONPLATE_CONNECTED = 3
+};
+
+enum {
+    GIBBONPLATE_MIN_OUTBOX = 4,
+    GIBBONPLATE_MAX_FILL = 65536,
+    GIBBONPLATE_MAX_LINE = 80,
+    GIBBONPLATE_MAX_DIGITS = 76,
+    GIBBONPLATE_MAX_REPLY = 26 /* bytes of the longest reply */
+};
+
+/* What a call answers beside its refusal. */
+typedef struct gibbonplate_answer {
+    uint8_t codes[2]; /* the reply, none, one or two codes, 0 for none: see gibbonplate_write_reply */
+    size_t sent;      /* bytes put at the outbox's front */
+} gibbonplate_answer;
+
+/*
+ * The library's own functions take the set as its six arrays, since it knows no structs of C's. Call
+ * the functions below these; from a language that cannot include this header, call these.
+ */
+#define GIBBONPLATE_ARRAYS \
+    uint64_t longs[5], uint32_t counts[4], double reals[6], uint8_t marks[8], uint8_t line[80], uint8_t keys[76]
+#define GIBBONPLATE_CONST_ARRAYS                                                                                 \
+    const uint64_t longs[5], const uint32_t counts[4], const double reals[6], const uint8_t marks[8],           \
+        const uint8_t line[80], const uint8_t keys[76]
+#define GIBBONPLATE_OF(set) (set)->longs, (set)->counts, (set)->reals, (set)->marks, (set)->line, (set)->keys
+
+uint8_t gibbonplate_new_in(GIBBONPLATE_ARRAYS, uint32_t rate);
+uint8_t gibbonplate_feed_in(GIBBONPLATE_ARRAYS, uint8_t byte, bool carrier, uint8_t *outbox, size_t len,
+                            uint8_t codes[2], size_t *sent);
+uint8_t gibbonplate_advance_time_in(GIBBONPLATE_ARRAYS, uint64_t ns, bool carrier, uint8_t codes[2]);
+uint8_t gibbonplate_force_data_mode_in(GIBBONPLATE_ARRAYS);
+uint8_t gibbonplate_process_out_in(GIBBONPLATE_ARRAYS, float *samples, size_t len);
+uint8_t gibbonplate_ring_in(GIBBONPLATE_CONST_ARRAYS, uint8_t *ring);
+uint8_t gibbonplate_cue_in(GIBBONPLATE_CONST_ARRAYS, uint32_t position, uint64_t *sample);
+uint8_t gibbonplate_mode_in(GIBBONPLATE_CONST_ARRAYS);
+uint8_t gibbonplate_state_in(GIBBONPLATE_CONST_ARRAYS);
+uint8_t gibbonplate_stage_in(GIBBONPLATE_CONST_ARRAYS);
+uint32_t gibbonplate_m_in(GIBBONPLATE_CONST_ARRAYS);
+uint32_t gibbonplate_rate_in(GIBBONPLATE_CONST_ARRAYS);
+size_t gibbonplate_digits_in(GIBBONPLATE_CONST_ARRAYS, uint8_t digits[76]);
+
+/*
+ * Makes a fresh set: state 0, command mode. The memory may hold anything before.
+ * Declines with 1, and then the set is fresh at 8,000.
+ */
+static inline uint8_t gibbonplate_new(gibbonplate_set *set, uint32_t rate)
+{
+    return gibbonplate_new_in(GIBBONPLATE_OF(set), rate);
+}
+
+/*
+ * A byte is typed. carrier says whether the line hears the other end; it is taken as false in state 0.
+ * What is to be sent is put at the front of the outbox, the rest of which stays; answer gets the reply
+ * and how many bytes were put there. Declines with 6, 2 and 4, in this order; answer is then all 0.
+ */
+static inline uint8_t gibbonplate_feed(gibbonplate_set *set, uint8_t byte, bool carrier, uint8_t *outbox, size_t len,
+                                       gibbonplate_answer *answer)
+{
+    return gibbonplate_feed_in(GIBBONPLATE_OF(set), byte, carrier, outbox, len, answer->codes, &answer->sent);
+}
+
+/*
+ * So many nanoseconds pass. answer gets the reply; it sends nothing. A card's frames make a remainder
+ * of nanoseconds: carry it over to the next call, or the clock is late. Declines with 6.
+ */
+static inline uint8_t gibbonplate_advance_time(gibbonplate_set *set, uint64_t ns, bool carrier,
+                                               gibbonplate_answer *answer)
+{
+    answer->sent = 0;
+    return gibbonplate_advance_time_in(GIBBONPLATE_OF(set), ns, carrier, answer->codes);
+}
+
+/* Data mode without a command, for a program that connects by itself. Declines with 6. */
+static inline uint8_t gibbonplate_force_data_mode(gibbonplate_set *set)
+{
+    return gibbonplate_force_data_mode_in(GIBBONPLATE_OF(set));
+}
+
+/*
+ * Fills the buffer with what the house hears next: silence in states 0 and 2, the call in state 1.
+ * Samples are between -1 and 1. An empty fill shows the next sample's stage, and with the whole call
+ * played takes the line up. Declines with 6, 3 and 5, in this order: in state 3 play what you like.
+ */
+static inline uint8_t gibbonplate_process_out(gibbonplate_set *set, float *samples, size_t len)
+{
+    return gibbonplate_process_out_in(GIBBONPLATE_OF(set), samples, len);
+}
+
+/* ring gets 1 or 2 while the next sample is one of Ringback's, else 0. Declines with 6, ring 0. */
+static inline uint8_t gibbonplate_ring(const gibbonplate_set *set, uint8_t *ring)
+{
+    return gibbonplate_ring_in(GIBBONPLATE_OF(set), ring);
+}
+
+/*
+ * sample gets the number, from 1, of a sample in the tone of the digit at a position, from 0.
+ * Declines with 6 and 7, in this order, sample 0.
+ */
+static inline uint8_t gibbonplate_cue(const gibbonplate_set *set, uint32_t position, uint64_t *sample)
+{
+    return gibbonplate_cue_in(GIBBONPLATE_OF(set), position, sample);
+}
+
+/* The plain readers decline nothing. Of memory that holds no set they read 'C', and 0. */
+
+/* 'C': what is typed is a command. 'D': what is typed is sent. */
+static inline uint8_t gibbonplate_mode(const gibbonplate_set *set)
+{
+    return gibbonplate_mode_in(GIBBONPLATE_OF(set));
+}
+
+/* One of the four states. */
+static inline uint8_t gibbonplate_state(const gibbonplate_set *set)
+{
+    return gibbonplate_state_in(GIBBONPLATE_OF(set));
+}
+
+/* The stage that is shown, 1 to 9, or 0 for none: that of the last sample written. Stage 10 is state 3. */
+static inline uint8_t gibbonplate_stage(const gibbonplate_set *set)
+{
+    return gibbonplate_stage_in(GIBBONPLATE_OF(set));
+}
+
+/* Samples written since the dial line. */
+static inline uint32_t gibbonplate_m(const gibbonplate_set *set)
+{
+    return gibbonplate_m_in(GIBBONPLATE_OF(set));
+}
+
+static inline uint32_t gibbonplate_rate(const gibbonplate_set *set)
+{
+    return gibbonplate_rate_in(GIBBONPLATE_OF(set));
+}
+
+/* How many digits were dialled. digits gets them at its front, and what stood behind them in the set. */
+static inline size_t gibbonplate_digits(const gibbonplate_set *set, uint8_t digits[GIBBONPLATE_MAX_DIGITS])
+{
+    return gibbonplate_digits_in(GIBBONPLATE_OF(set), digits);
+}
+
+/*
+ * Writes the text of a code to the front of out, and answers its length: 1 OK, 2 CONNECT 300,
+ * 3 NO CARRIER, 4 ERROR, 5 modem-core Bell 103 v1.0.0. No 0 byte and no line end is added. Another
+ * code, or an out that is too short, gives 0 and leaves out as it was.
+ */
+size_t gibbonplate_write_reply(uint8_t code, uint8_t *out, size_t len);
+
+#ifdef __cplusplus
+}
+#endif
+
+#endif

@@ -1,0 +1,366 @@
+/*
+ * Tries the set from C.
+ *
+ *     set call DIGITS RATE FILE   plays a call in buffers of changing lengths, and holds the samples
+ *                                 against those of a WAV file of `call`, bit for bit
+ *     set refusals                every refusal, every reader and every reply
+ *     set scribble TIMES [SEED]   writes over the memory at random and calls: each call answers, a
+ *                                 declined one changes nothing, and nothing is touched that was not lent
+ *
+ * What is lent lies against a page that may not be touched, at its end or its front by turns, so a
+ * step outside ends the program. Exits with 1 where something is not as it should be.
+ */
+#define _DEFAULT_SOURCE
+#include "gibbonplate.h"
+#include <stdio.h>
+#include <stdlib.h>
+#include <string.h>
+#include <sys/mman.h>
+#include <unistd.h>
+
+#define CHECK(fact) ((fact) ? (void)0 : failed(#fact, __LINE__))
+
+static void failed(const char *fact, int line)
+{
+    fprintf(stderr, "tests/c/set.c:%d: not so: %s\n", line, fact);
+    exit(1);
+}
+
+static uint64_t seed = 0x2545F4914F6CDD1D;
+
+static uint64_t random64(void)
+{
+    seed ^= seed << 13;
+    seed ^= seed >> 7;
+    seed ^= seed << 17;
+    return seed * 0x2545F4914F6CDD1D;
+}
+
+static uint64_t below(uint64_t n)
+{
+    return (random64() >> 11) % n;
+}
+
+/* Memory of so many bytes with a page before it and one behind it that may not be touched. */
+typedef struct {
+    unsigned char *bytes;
+    size_t size;
+} room;
+
+static room walled(size_t size)
+{
+    size_t page = (size_t)sysconf(_SC_PAGESIZE);
+    size_t whole = (size + page - 1) / page * page;
+    unsigned char *start = mmap(NULL, whole + 2 * page, PROT_NONE, MAP_PRIVATE | MAP_ANONYMOUS, -1, 0);
+
+    CHECK(start != MAP_FAILED);
+    CHECK(mprotect(start + page, whole, PROT_READ | PROT_WRITE) == 0);
+    return (room){start + page, whole};
+}
+
+/* So many bytes of it, against the wall behind or the one before. */
+static void *lent(room r, size_t size, bool behind)
+{
+    CHECK(size <= r.size);
+    return behind ? r.bytes + r.size - size : r.bytes;
+}
+
+static void type(gibbonplate_set *set, const char *text)
+{
+    uint8_t outbox[GIBBONPLATE_MIN_OUTBOX];
+    gibbonplate_answer answer;
+
+    for (; *text; text++)
+        CHECK(gibbonplate_feed(set, (uint8_t)*text, false, outbox, sizeof outbox, &answer) == 0);
+}
+
+/* ---- a whole call */
+
+static float *wav(const char *path, size_t *count)
+{
+    FILE *file = fopen(path, "rb");
+    long size;
+    unsigned char *bytes;
+    size_t at = 12;
+
+    CHECK(file != NULL);
+    CHECK(fseek(file, 0, SEEK_END) == 0);
+    size = ftell(file);
+    rewind(file);
+    bytes = malloc((size_t)size);
+    CHECK(bytes != NULL && fread(bytes, 1, (size_t)size, file) == (size_t)size);
+    fclose(file);
+    while (memcmp(bytes + at, "data", 4) != 0)
+        at += 8 + (bytes[at + 4] | (size_t)bytes[at + 5] << 8 | (size_t)bytes[at + 6] << 16 | (size_t)bytes[at + 7] << 24);
+    *count = ((size_t)size - at - 8) / sizeof(float);
+    float *samples = malloc(*count * sizeof(float));
+    CHECK(samples != NULL);
+    memcpy(samples, bytes + at + 8, *count * sizeof(float));
+    free(bytes);
+    return samples;
+}
+
+static void call(const char *digits, uint32_t rate, const char *path)
+{
+    size_t total;
+    float *expected = wav(path, &total);
+    room buffers = walled(4096 * sizeof(float));
+    size_t m = 0, fills = 0;
+    uint8_t stage = 0;
+    gibbonplate_set set;
+
+    CHECK(gibbonplate_new(&set, rate) == 0);
+    type(&set, "atdt");
+    type(&set, digits);
+    type(&set, "\r");
+    CHECK(gibbonplate_state(&set) == GIBBONPLATE_DIALLING && gibbonplate_mode(&set) == 'D');
+    while (gibbonplate_state(&set) == GIBBONPLATE_DIALLING) {
+        size_t len = below(8) == 0 ? 0 : below(4) == 0 ? below(17) : below(4097);
+        float *buffer = lent(buffers, len * sizeof(float), below(2));
+        size_t i;
+
+        memset(buffers.bytes, 0x5A, buffers.size);
+        CHECK(gibbonplate_process_out(&set, buffer, len) == 0);
+        for (i = 0; i < len; i++) {
+            float silence = 0;
+            CHECK(memcmp(&buffer[i], m + i < total ? &expected[m + i] : &silence, sizeof(float)) == 0);
+        }
+        m += len;
+        fills++;
+        CHECK(gibbonplate_m(&set) == m);
+        CHECK(gibbonplate_stage(&set) == 0 || gibbonplate_stage(&set) >= stage);
+        stage = gibbonplate_stage(&set);
+        CHECK((gibbonplate_state(&set) == GIBBONPLATE_CONNECTED) == (m > total || (m == total && len == 0)));
+        CHECK(fills < 1000000);
+    }
+    CHECK(gibbonplate_stage(&set) == 0);
+    printf("call %s at %u: %zu samples bit for bit, in %zu buffers\n", digits, rate, total, fills);
+    free(expected);
+}
+
+/* ---- refusals, readers, replies */
+
+static void refusals(void)
+{
+    gibbonplate_set set, was;
+    gibbonplate_answer answer;
+    uint8_t outbox[8], text[40], digits[GIBBONPLATE_MAX_DIGITS], ring;
+    float *samples = calloc(GIBBONPLATE_MAX_FILL + 1, sizeof(float));
+    uint64_t sample;
+    int i;
+    static const char *const replies[] = {"", "OK", "CONNECT 300", "NO CARRIER", "ERROR", "modem-core Bell 103 v1.0.0", ""};
+
+    /* 1 */
+    CHECK(gibbonplate_new(&set, 7999) == 1 && gibbonplate_rate(&set) == 8000);
+    CHECK(gibbonplate_new(&set, 192001) == 1 && gibbonplate_rate(&set) == 8000);
+    CHECK(gibbonplate_new(&set, 192000) == 0 && gibbonplate_rate(&set) == 192000);
+    CHECK(gibbonplate_new(&set, 8000) == 0 && gibbonplate_rate(&set) == 8000);
+    CHECK(gibbonplate_mode(&set) == 'C' && gibbonplate_state(&set) == 0 && gibbonplate_stage(&set) == 0);
+    CHECK(gibbonplate_m(&set) == 0 && gibbonplate_digits(&set, digits) == 0);
+
+    /* 2 */
+    was = set;
+    memset(outbox, 7, sizeof outbox);
+    memset(&answer, 7, sizeof answer);
+    CHECK(gibbonplate_feed(&set, 'A', false, outbox, 3, &answer) == 2);
+    CHECK(answer.codes[0] == 0 && answer.codes[1] == 0 && answer.sent == 0 && outbox[0] == 7);
+    CHECK(gibbonplate_feed(&set, 'A', false, NULL, 0, &answer) == 2);
+    CHECK(memcmp(&set, &was, sizeof set) == 0);
+
+    /* 4 */
+    for (i = 0; i < GIBBONPLATE_MAX_LINE; i++)
+        type(&set, "1");
+    was = set;
+    CHECK(gibbonplate_feed(&set, '1', false, outbox, 4, &answer) == 4);
+    CHECK(memcmp(&set, &was, sizeof set) == 0 && outbox[0] == 7);
+    CHECK(gibbonplate_feed(&set, '\n', false, outbox, 4, &answer) == 0);
+    CHECK(gibbonplate_feed(&set, '\r', false, outbox, 4, &answer) == 0 && answer.codes[0] == 4 && answer.codes[1] == 0);
+
+    /* 7, and a cue */
+    CHECK(gibbonplate_cue(&set, 0, &sample) == 7 && sample == 0);
+    type(&set, "ATDT12\r");
+    CHECK(gibbonplate_cue(&set, 1, &sample) == 0 && sample > 400 + 8000 + 1600 && sample <= 400 + 8000 + 2400);
+    CHECK(gibbonplate_cue(&set, 2, &sample) == 7 && sample == 0);
+    CHECK(gibbonplate_digits(&set, digits) == 2 && memcmp(digits, "12", 2) == 0);
+
+    /* 3 */
+    was = set;
+    samples[0] = 3;
+    CHECK(gibbonplate_process_out(&set, samples, GIBBONPLATE_MAX_FILL + 1) == 3 && samples[0] == 3);
+    CHECK(memcmp(&set, &was, sizeof set) == 0);
+    CHECK(gibbonplate_process_out(&set, NULL, 0) == 0 && gibbonplate_stage(&set) == 1);
+
+    /* the rings, and 5 */
+    CHECK(gibbonplate_process_out(&set, samples, 400 + 8000 + 3200) == 0 && gibbonplate_stage(&set) == 3);
+    CHECK(gibbonplate_ring(&set, &ring) == 0 && ring == 1);
+    CHECK(gibbonplate_process_out(&set, samples, 24001) == 0);
+    CHECK(gibbonplate_ring(&set, &ring) == 0 && ring == 2);
+    CHECK(gibbonplate_process_out(&set, samples, GIBBONPLATE_MAX_FILL) == 0);
+    CHECK(gibbonplate_ring(&set, &ring) == 0 && ring == 0);
+    CHECK(gibbonplate_process_out(&set, samples, GIBBONPLATE_MAX_FILL) == 0);
+    CHECK(gibbonplate_state(&set) == GIBBONPLATE_CONNECTED);
+    was = set;
+    samples[0] = 3;
+    CHECK(gibbonplate_process_out(&set, samples, 1) == 5 && samples[0] == 3);
+    CHECK(memcmp(&set, &was, sizeof set) == 0);
+
+    /* carrier, time and data mode */
+    CHECK(gibbonplate_advance_time(&set, 20000000, true, &answer) == 0 && answer.codes[0] == 2);
+    CHECK(gibbonplate_feed(&set, 'x', true, outbox, 4, &answer) == 0 && answer.sent == 1 && outbox[0] == 'x' && outbox[1] == 7);
+    CHECK(gibbonplate_advance_time(&set, 699999999, false, &answer) == 0 && answer.codes[0] == 0);
+    CHECK(gibbonplate_advance_time(&set, 1, false, &answer) == 0 && answer.codes[0] == 3);
+    CHECK(gibbonplate_state(&set) == 0 && gibbonplate_mode(&set) == 'C');
+    CHECK(gibbonplate_force_data_mode(&set) == 0 && gibbonplate_mode(&set) == 'D');
+
+    /* 6 */
+    set.counts[0] = 7999;
+    was = set;
+    memset(outbox, 7, sizeof outbox);
+    samples[0] = 3;
+    CHECK(gibbonplate_feed(&set, 'A', false, outbox, 4, &answer) == 6 && outbox[0] == 7);
+    CHECK(gibbonplate_advance_time(&set, 1, false, &answer) == 6);
+    CHECK(gibbonplate_force_data_mode(&set) == 6);
+    CHECK(gibbonplate_process_out(&set, samples, 1) == 6 && samples[0] == 3);
+    CHECK(gibbonplate_ring(&set, &ring) == 6 && ring == 0);
+    CHECK(gibbonplate_cue(&set, 0, &sample) == 6 && sample == 0);
+    CHECK(memcmp(&set, &was, sizeof set) == 0);
+    memset(&set, 0xFF, sizeof set);
+    CHECK(gibbonplate_process_out(&set, samples, 1) == 6 && gibbonplate_rate(&set) == 0 && gibbonplate_mode(&set) == 'C');
+    memset(&set, 0, sizeof set);
+    CHECK(gibbonplate_process_out(&set, samples, 1) == 6 && gibbonplate_rate(&set) == 0);
+
+    /* replies */
+    for (i = 0; i < 256; i++) {
+        const char *reply = replies[i < 6 ? i : 6];
+        size_t len = strlen(reply);
+
+        memset(text, 7, sizeof text);
+        CHECK(gibbonplate_write_reply((uint8_t)i, text, sizeof text) == len);
+        CHECK(memcmp(text, reply, len) == 0 && text[len] == 7);
+        memset(text, 7, sizeof text);
+        CHECK(len == 0 || (gibbonplate_write_reply((uint8_t)i, text, len - 1) == 0 && text[0] == 7));
+        CHECK(len == 0 || gibbonplate_write_reply((uint8_t)i, text, len) == len);
+        CHECK(gibbonplate_write_reply((uint8_t)i, NULL, 0) == 0);
+    }
+    free(samples);
+    printf("every refusal, every reader and every reply\n");
+}
+
+/* ---- memory scribbled over */
+
+enum { SETS = 400, LONGEST = 200 };
+
+/* Sets of every state and stage to begin with. */
+static size_t bank(gibbonplate_set *sets)
+{
+    static const char *const lines[] = {"", "A", "ATDT1", "ATA\r", "ATDT\r", "ATDT0123456789ABCD*#\r"};
+    static float samples[GIBBONPLATE_MAX_FILL];
+    size_t count = 0, i;
+
+    for (i = 0; i < sizeof lines / sizeof *lines; i++) {
+        gibbonplate_new(&sets[count], 8000);
+        type(&sets[count++], lines[i]);
+    }
+    while (count < SETS && gibbonplate_state(&sets[count - 1]) == GIBBONPLATE_DIALLING) {
+        sets[count] = sets[count - 1];
+        CHECK(gibbonplate_process_out(&sets[count++], samples, 300) == 0);
+    }
+    CHECK(gibbonplate_state(&sets[count - 1]) == GIBBONPLATE_CONNECTED);
+    return count;
+}
+
+/* A few places of the memory get numbers at the edges of what is allowed, or any. */
+static void scribble(gibbonplate_set *set)
+{
+    static const double reals[] = {0.0, -0.0, 1.0, 0.9999999999999999, 6.283185307179586, 6.283185307179585,
+                                   -1.0, 8000.0, 0.0375, 1e308, 4.9e-324};
+    static const uint64_t numbers[] = {0, 1, 2, 3, 4, 9, 10, 11, 60, 61, 76, 77, 80, 81, 255, 256, 300, 400,
+                                       699999999, 700000000, 5000000, 5000001, 4294967295, 18446744073709551615u};
+    size_t times = below(4);
+
+    while (times-- > 0) {
+        uint64_t any = below(2) ? random64() : numbers[below(sizeof numbers / sizeof *numbers)];
+        switch (below(7)) {
+        case 0: set->longs[below(5)] = any; break;
+        case 1: set->counts[below(4)] = (uint32_t)any; break;
+        case 2: memcpy(&set->reals[below(6)], &any, sizeof any); break;
+        case 3: set->reals[below(6)] = reals[below(sizeof reals / sizeof *reals)]; break;
+        case 4: set->marks[below(8)] = (uint8_t)any; break;
+        case 5: set->line[below(80)] = (uint8_t)any; break;
+        default: set->keys[below(76)] = (uint8_t)any; break;
+        }
+    }
+    if (below(50) == 0)
+        for (size_t i = 0; i < sizeof *set; i++)
+            ((unsigned char *)set)[i] = (unsigned char)random64();
+}
+
+static void scribbled(size_t times)
+{
+    static gibbonplate_set sets[SETS];
+    size_t count = bank(sets), accepted = 0, declined[8] = {0}, i;
+    room home = walled(sizeof(gibbonplate_set)), away = walled(LONGEST * sizeof(float)), told = walled(sizeof(gibbonplate_answer));
+    unsigned char before[LONGEST * sizeof(float)];
+
+    for (i = 0; i < times; i++) {
+        bool behind = below(2);
+        gibbonplate_set *set = lent(home, sizeof *set, behind), was;
+        gibbonplate_answer *answer = lent(told, sizeof *answer, behind);
+        size_t len = below(LONGEST + 1), lost = below(2) ? len : below(8);
+        uint8_t refusal = 0, ring = 9;
+        uint64_t sample = 9;
+        uint8_t *bytes;
+        float *samples;
+        bool carrier = below(2);
+
+        *set = sets[below(count)];
+        scribble(set);
+        memcpy(&was, set, sizeof was);
+        memset(away.bytes, (int)below(256), away.size);
+        bytes = lent(away, lost, behind);
+        samples = lent(away, len * sizeof(float), behind);
+        memcpy(before, away.bytes + (behind ? away.size - sizeof before : 0), sizeof before);
+        switch (below(6)) {
+        case 0: refusal = gibbonplate_feed(set, (uint8_t)(below(3) ? random64() : '\r'), carrier, bytes, lost, answer); break;
+        case 1: refusal = gibbonplate_advance_time(set, below(2) ? random64() : below(2000000000), carrier, answer); break;
+        case 2: refusal = gibbonplate_force_data_mode(set); break;
+        case 3: refusal = gibbonplate_process_out(set, samples, len); break;
+        case 4: refusal = gibbonplate_ring(set, &ring); CHECK(refusal == 0 ? ring <= 2 : ring == 0); break;
+        default: refusal = gibbonplate_cue(set, (uint32_t)below(80), &sample); CHECK((refusal == 0) == (sample > 0)); break;
+        }
+        CHECK(refusal <= 7 && refusal != 1 && refusal != 3);
+        declined[refusal]++;
+        if (refusal == 0) {
+            accepted++;
+            CHECK(gibbonplate_rate(set) == was.counts[0]);
+        } else {
+            CHECK(memcmp(set, &was, sizeof was) == 0);
+            CHECK(memcmp(before, away.bytes + (behind ? away.size - sizeof before : 0), sizeof before) == 0);
+        }
+        CHECK(gibbonplate_state(set) <= 3);
+        CHECK(gibbonplate_mode(set) == 'C' || gibbonplate_mode(set) == 'D');
+        CHECK(gibbonplate_digits(set, before) <= GIBBONPLATE_MAX_DIGITS);
+        (void)gibbonplate_stage(set);
+        (void)gibbonplate_m(set);
+    }
+    printf("scribbled over %zu times: %zu calls were done, and declined with 2: %zu, 4: %zu, 5: %zu, 6: %zu, 7: %zu\n",
+           times, accepted, declined[2], declined[4], declined[5], declined[6], declined[7]);
+    CHECK(accepted > 0 && declined[6] > 0);
+}
+
+int main(int argc, char **argv)
+{
+    if (argc == 5 && strcmp(argv[1], "call") == 0) {
+        call(argv[2], (uint32_t)strtoul(argv[3], NULL, 10), argv[4]);
+    } else if (argc == 2 && strcmp(argv[1], "refusals") == 0) {
+        refusals();
+    } else if ((argc == 3 || argc == 4) && strcmp(argv[1], "scribble") == 0) {
+        if (argc == 4)
+            seed ^= strtoull(argv[3], NULL, 10) * 0x9E3779B97F4A7C15;
+        scribbled(strtoull(argv[2], NULL, 10));
+    } else {
+        fprintf(stderr, "set: it takes call DIGITS RATE FILE, or refusals, or scribble TIMES [SEED]\n");
+        return 1;
+    }
+    return 0;
+}
