@@ -195,7 +195,7 @@ static void refusals(void)
     CHECK(gibbonplate_ring(&set, &ring) == 0 && ring == 1);
     CHECK(gibbonplate_process_out(&set, samples, 24001) == 0);
     CHECK(gibbonplate_ring(&set, &ring) == 0 && ring == 2);
-    CHECK(gibbonplate_process_out(&set, samples, GIBBONPLATE_MAX_FILL) == 0);
+    CHECK(gibbonplate_process_out(&set, samples, 8000) == 0);
     CHECK(gibbonplate_ring(&set, &ring) == 0 && ring == 0);
     CHECK(gibbonplate_process_out(&set, samples, GIBBONPLATE_MAX_FILL) == 0);
     CHECK(gibbonplate_state(&set) == GIBBONPLATE_CONNECTED);
@@ -253,7 +253,9 @@ enum { SETS = 400, LONGEST = 200 };
 /* Sets of every state and stage to begin with. */
 static size_t bank(gibbonplate_set *sets)
 {
-    static const char *const lines[] = {"", "A", "ATDT1", "ATA\r", "ATDT\r", "ATDT0123456789ABCD*#\r"};
+    static const char *const lines[] = {
+        "", "A", "ATDT1", "ATDT1234567890123456789012345678901234567890123456789012345678901234567890123456",
+        "ATA\r", "ATDT\r", "ATDT0123456789ABCD*#\r"};
     static float samples[GIBBONPLATE_MAX_FILL];
     size_t count = 0, i;
 
@@ -345,7 +347,7 @@ static void scribbled(size_t times)
     }
     printf("scribbled over %zu times: %zu calls were done, and declined with 2: %zu, 4: %zu, 5: %zu, 6: %zu, 7: %zu\n",
            times, accepted, declined[2], declined[4], declined[5], declined[6], declined[7]);
-    CHECK(accepted > 0 && declined[6] > 0);
+    CHECK(times < 100000 || (accepted > 0 && declined[2] > 0 && declined[4] > 0 && declined[5] > 0 && declined[6] > 0 && declined[7] > 0));
 }
 
 int main(int argc, char **argv)
