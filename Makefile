@@ -1,9 +1,13 @@
-.PHONY: call test oracle listen bench edits
+.PHONY: call show test oracle listen bench edits c stage
 
 # A call to listen to, in call.wav, and a table of its stages. The program is proved before it is built.
 call:
 	rt check call
 	target/bin/call
+
+# The show: sound and icons live, over JACK. It is built to target/bin/show.
+show:
+	show/build
 
 # The gate.
 test:
@@ -26,3 +30,11 @@ bench:
 # The wrong programs of tests/edits, which `rt ci` does not try.
 edits:
 	tests/edits/run
+
+# The set from C: whole calls, every refusal, memory scribbled over.
+c:
+	tests/c/run
+
+# The show on servers of its own, with JACK's dummy driver.
+stage:
+	tests/show/run
