@@ -8,9 +8,12 @@
 
 include!(concat!(env!("ORACLE_SRC"), "/rust.rs"));
 
+#[path = "lent.rs"]
+mod lent;
 #[path = "port.rs"]
 mod port;
 
+use lent::Lent;
 use port::Start;
 use set::Set;
 use std::hint::black_box;
@@ -238,7 +241,7 @@ impl Bench {
         let skip = lengths[0] + lengths[1] + lengths[2] / 2;
         let start = Start { rate: 48_000, digits: &digits, skip };
         println!("\na call on a set in Dialling with 76 digits, ns");
-        println!("{:<21} {:>8} {:>8}", "", "Rust", "port");
+        println!("{:<21} {:>8} {:>8} {:>12}", "", "Rust", "port", "port from C");
         let rust = self.best(|| {
             let mut set = rust_at(start);
             nanoseconds(|| {
@@ -248,7 +251,15 @@ impl Bench {
             })
         });
         let port = self.best_of_port(|turns| start.bytes(turns));
-        println!("{:<21} {rust:>8.1} {port:>8.1}", "a typed byte");
+        let lent = self.best(|| {
+            let mut set = Lent::at(start);
+            nanoseconds(|| {
+                for _ in 0..CALLS {
+                    black_box(set.feed(b'A', true));
+                }
+            })
+        });
+        println!("{:<21} {rust:>8.1} {port:>8.1} {lent:>12.1}", "a typed byte");
         let rust = self.best(|| {
             let mut set = rust_at(start);
             nanoseconds(|| {
@@ -258,7 +269,15 @@ impl Bench {
             })
         });
         let port = self.best_of_port(|turns| start.empty_fills(turns) as u64);
-        println!("{:<21} {rust:>8.1} {port:>8.1}", "an empty fill");
+        let lent = self.best(|| {
+            let mut set = Lent::at(start);
+            nanoseconds(|| {
+                for _ in 0..CALLS {
+                    black_box(set.process_out(black_box(&mut [])));
+                }
+            })
+        });
+        println!("{:<21} {rust:>8.1} {port:>8.1} {lent:>12.1}", "an empty fill");
         assert_eq!(start.sound(CALLS), CALLS);
         let port = self.best_of_port(|turns| start.sound(turns));
         println!("{:<21} {:>8} {port:>8.1}", "soundness alone", "-");

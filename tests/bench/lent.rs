@@ -1,0 +1,73 @@
+//! The port through its C interface: a set in lent memory, as include/gibbonplate.h has it.
+
+use crate::port::Start;
+
+#[repr(C)]
+pub struct Lent {
+    longs: [u64; 5],
+    counts: [u32; 4],
+    reals: [f64; 6],
+    marks: [u8; 8],
+    line: [u8; 80],
+    keys: [u8; 76],
+}
+
+type Longs = [u64; 5];
+type Counts = [u32; 4];
+type Reals = [f64; 6];
+type Marks = [u8; 8];
+type Line = [u8; 80];
+type Keys = [u8; 76];
+
+// A slice goes over as its address and its length.
+#[allow(improper_ctypes)]
+extern "C" {
+    fn gibbonplate_new_in(l: &mut Longs, c: &mut Counts, r: &mut Reals, m: &mut Marks, b: &mut Line, k: &mut Keys, rate: u32) -> u8;
+    fn gibbonplate_feed_in(
+        l: &mut Longs, c: &mut Counts, r: &mut Reals, m: &mut Marks, b: &mut Line, k: &mut Keys,
+        byte: u8, carrier: bool, outbox: &mut [u8], codes: &mut [u8; 2], sent: &mut usize,
+    ) -> u8;
+    fn gibbonplate_process_out_in(
+        l: &mut Longs, c: &mut Counts, r: &mut Reals, m: &mut Marks, b: &mut Line, k: &mut Keys, samples: &mut [f32],
+    ) -> u8;
+}
+
+impl Lent {
+    /// The set where a call begins.
+    pub fn at(start: Start) -> Lent {
+        let mut s = Lent { longs: [0; 5], counts: [0; 4], reals: [0.0; 6], marks: [0; 8], line: [0; 80], keys: [0; 76] };
+        unsafe {
+            gibbonplate_new_in(&mut s.longs, &mut s.counts, &mut s.reals, &mut s.marks, &mut s.line, &mut s.keys, start.rate);
+        }
+        for &byte in b"ATDT".iter().chain(start.digits).chain(b"\r") {
+            s.feed(byte, false);
+        }
+        let mut scratch = [0.0; 4096];
+        let mut left = start.skip;
+        while left > 0 {
+            let part = left.min(scratch.len());
+            s.process_out(&mut scratch[..part]);
+            left -= part;
+        }
+        s
+    }
+
+    pub fn feed(&mut self, byte: u8, carrier: bool) -> usize {
+        let (mut outbox, mut codes, mut sent) = ([0; 4], [0; 2], 0);
+        unsafe {
+            gibbonplate_feed_in(
+                &mut self.longs, &mut self.counts, &mut self.reals, &mut self.marks, &mut self.line, &mut self.keys,
+                byte, carrier, &mut outbox, &mut codes, &mut sent,
+            );
+        }
+        sent
+    }
+
+    pub fn process_out(&mut self, samples: &mut [f32]) -> u8 {
+        unsafe {
+            gibbonplate_process_out_in(
+                &mut self.longs, &mut self.counts, &mut self.reals, &mut self.marks, &mut self.line, &mut self.keys, samples,
+            )
+        }
+    }
+}
