@@ -10,7 +10,6 @@ use lib.ListN.{length}
 use Rattle.reply.specs.declared.Reply.{Reply}
 use Rattle.reply.specs.Codes.{firstOf, secondOf}
 use Rattle.set.specs.Refusals.{refusalNumber}
-use Rattle.set.specs.declared.Set.{Set}
 use Rattle.set.specs.Set.{made, typed, outbox, lapsed, forced, fill, buffer, rung}
 use Rattle.cue.specs.Cue.{CueIs, cueCause, cueRefusalNumber}
 use Rattle.gibbonplate.specs.Memory.{Memory, stored, loaded, kept}

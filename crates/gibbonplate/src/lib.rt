@@ -2,7 +2,6 @@
 // header has in one struct. Each function here is the set's call between a load and a store, and a declined call leaves the memory as it was.
 use set::Set;
 ghost use mathlib.Core.Path.{_≡_};
-ghost use mathlib.Core.Bool.{cond};
 ghost use lib.ListN.{length};
 ghost use Rattle.ascii.specs.Front.{put, putLength};
 ghost use Rattle.reply.specs.Texts.{textOf};
