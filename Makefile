@@ -1,16 +1,21 @@
-.PHONY: call show test oracle listen bench edits c stage
+.PHONY: rt call show test oracle listen bench edits c stage
+
+# Rattle's toolchain, by which every program here is proved and built.
+rt:
+	@command -v rt >/dev/null || { echo "make: there is no rt, Rattle's toolchain; README.md says what it is, under \"To start\"" >&2; exit 1; }
 
 # A call to listen to, in call.wav, and a table of its stages. The program is proved before it is built.
-call:
-	rt check call
-	target/bin/call
+call: rt
+	@mkdir -p target && { rt check call >target/call.log 2>&1 || { cat target/call.log; exit 1; }; }
+	@bin/call
+	@echo "call.wav is written; what the toolchain said is in target/call.log"
 
 # The show: sound and icons live, over JACK. It is built to target/bin/show.
-show:
+show: rt
 	show/build
 
 # The gate.
-test:
+test: rt
 	bash .ci/run
 
 # The Rust with 01's stand-ins, at target/oracle/oracle.
@@ -18,23 +23,23 @@ oracle:
 	tests/oracle/build
 
 # What `call` writes, held against the Rust and played to a decoder of keys.
-listen:
+listen: rt
 	rt check call
 	tests/call
 	tests/decode
 
 # The port against the Rust: ns a sample, and the samples' bits compared.
-bench:
+bench: rt
 	tests/bench/run
 
 # The wrong programs of tests/edits, which `rt ci` does not try.
-edits:
+edits: rt
 	tests/edits/run
 
 # The set from C: whole calls, every refusal, memory scribbled over.
-c:
+c: rt
 	tests/c/run
 
 # The show on servers of its own, with JACK's dummy driver.
-stage:
+stage: rt
 	tests/show/run
