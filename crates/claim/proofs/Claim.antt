@@ -25,7 +25,7 @@ use Rattle.set.proofs.Soundness.{fresh-sound}
 use Rattle.set.proofs.Follows.{Follows, Invariant}
 use Rattle.set.proofs.Steps.{Stepped, feed-steps, advance-time-steps, force-data-mode-steps, process-out-steps}
 use Rattle.claim.specs.Trace.{Did, typed, lapsed, forced, filled, Trace, setAfter}
-use Rattle.claim.specs.Claim.{SinceDial, notCalled, sinceNext, NeverBack, Reports, Answered, AllAnswered, callOf, bookAfter, sinceAfter, bitsOf, Played, Claim}
+use Rattle.claim.specs.Claim.{SinceDial, notCalled, sinceNext, NeverBack, Answered, AllAnswered, callOf, bookAfter, sinceAfter, bitsOf, Played, Claim}
 use Rattle.claim.proofs.Consistent.{Progress, Consistent, room-left, never-6, entry-consistent, blank-consistent}
 
 -- what each call's own contract tells
@@ -40,9 +40,6 @@ pub record ListInvariant (r : ℕ) (s : Set) (k : Book) (h : SinceDial) : Type 0
   pub follows : Follows r k s
   pub sound : sound s ≡ true
   pub consistent : Consistent r k h
-
-reports : {r : ℕ} {s : Set} {k : Book} → Follows r k s → Reports s k
-reports f = record { count = f .count; state = f .state; stage = f .shown }
 
 pub record Runs (r : ℕ) (s : Set) (k : Book) (h : SinceDial) (es : List Event) : Type 0 where
   pub answered : AllAnswered r s k es
@@ -59,7 +56,7 @@ module _ (r : ℕ) (ok : rateOk r ≡ true) where
           number = q .effect .number;
           sound = λ (six : refusalNumber (e .refusal) ≡ 6). never-6 r ok (entryOf k (e .call)) (q .effect .limits) (sym (q .effect .number) ∙ six);
           unchanged = q .unchanged;
-          reports = reports f;
+          reports = record { count = f .count; state = f .state; stage = f .shown };
         },
         record {
           follows = f;
@@ -108,7 +105,7 @@ module _ (r : ℕ) (ok : rateOk r ≡ true) where
 
   pub played : (s : Set) (k : Book) (h : SinceDial) → ListInvariant r s k h → h .called ≡ true → Played r s (k .digits) (lengthOf (k .digits) r) h
   played s k h at called =
-      let told = reports (at .follows) in
+      let told = at .follows in
       let consistent = at .consistent in
       let few = digits-few (k .digits) (consistent .digits) in
       let long = overture-length (k .digits) r (rate-low r ok) (rate-high r ok) few in

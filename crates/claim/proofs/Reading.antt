@@ -1,5 +1,5 @@
--- Demand 3 read off the claim, each part at its full strength, so that a claim that says less is refused here: of every call of a list what it
--- answers, and at the list's end what came of the dial line. Assumes nothing.
+-- Demand 3 read off the contract of `start`, each part at its full strength, so that a contract or a claim that says less is refused here: of
+-- every call of a list what it answers, and at the list's end what came of the dial line. Assumes nothing.
 use Prim.Native.Nat.{ℕ, _+_, _<_}
 use mathlib.Core.Path.{_≡_}
 use mathlib.Core.Bool.{true}
@@ -7,17 +7,19 @@ use mathlib.Core.List.{List, [], _∷_, _++_, map}
 use mathlib.Core.Logic.{_⊎_, _↔_}
 use lib.Ieee.{binary32, ofBits}
 use lib.ListN.{length, replicate}
+use Rattle.reply.specs.declared.Reply.the-variants.{None}
 use Rattle.session.specs.declared.SessionState.the-variants.{Connected}
 use Rattle.schedule.specs.Bounds.{TotalBounds}
 use Rattle.passage.specs.Overture.{HasLength}
 use Rattle.set.specs.declared.Set.{Set}
+use Rattle.set.specs.declared.Made.{Made}
 use Rattle.set.specs.Refusals.{refusalNumber, Declined}
 use Rattle.set.specs.Set.{made}
 use Rattle.set.specs.Book.{Book, blank, overture, lengthOf, declinedWith, entered}
 use Rattle.set.specs.Event.{Event, Unchanged}
 use Rattle.claim.specs.Trace.{Trace, setAfter}
-use Rattle.claim.specs.Claim.{SinceDial, notCalled, NeverBack, Reports, Answered, AllAnswered, callOf, bookAfter, sinceAfter, bitsOf, Played}
-use Rattle.claim.proofs.Claim.{claim}
+use Rattle.claim.specs.Claim.{SinceDial, notCalled, NeverBack, Reports, Answered, AllAnswered, callOf, bookAfter, sinceAfter, bitsOf, Played, Claim}
+use Rattle.claim.proofs.start.Reads as start
 
 -- a call in the middle of a list
 at-call : (r : ℕ) (s : Set) (k : Book) (es : List Event) (e : Event) (later : List Event) → AllAnswered r s k (es ++ e ∷ later)
@@ -25,17 +27,23 @@ at-call : (r : ℕ) (s : Set) (k : Book) (es : List Event) (e : Event) (later : 
 at-call r s k [] e later (answered, rest) = answered
 at-call r s k (x ∷ es) e later (answered, rest) = at-call r (x .set) (entered r k (x .call)) es e later rest
 
--- from a set that creation hands out
-module _ (rate : ℕ) where
+-- from the set that `start` hands out
+module _ (rate : ℕ) (answer : Made) (d : start.Learnt tt (rate, tt) answer (rate, tt)) where
   abbrev s : Set
-  s = made rate .set
+  s = answer .set
+
+  pub starts : answer ≡ made rate
+  starts = d .0
+
+  claim : Claim s
+  claim = d .1
 
   module _ (es : List Event) (e : Event) (later : List Event) (t : Trace s (es ++ e ∷ later)) where
     abbrev before : Book
     before = bookAfter (s .rate) blank (map callOf es)
 
     answered : Answered (s .rate) (setAfter s es) before e
-    answered = at-call (s .rate) s blank es e later (claim rate (es ++ e ∷ later) t .answered)
+    answered = at-call (s .rate) s blank es e later (claim (es ++ e ∷ later) t .answered)
 
     pub number-is : refusalNumber (e .refusal) ≡ declinedWith before (e .call)
     number-is = answered .number
@@ -43,11 +51,36 @@ module _ (rate : ℕ) where
     pub never-unsound : refusalNumber (e .refusal) ≡ 6 → ⊥
     never-unsound = answered .sound
 
-    pub declined-unchanged : Declined (e .refusal) → Unchanged (setAfter s es) e
-    declined-unchanged = answered .unchanged
+    module _ (declined : Declined (e .refusal)) where
+      unchanged : Unchanged (setAfter s es) e
+      unchanged = answered .unchanged declined
 
-    pub reports-the-book : Reports (e .set) (entered (s .rate) before (e .call))
-    reports-the-book = answered .reports
+      pub declined-set : e .set ≡ setAfter s es
+      declined-set = unchanged .set
+
+      pub declined-lent : e .left ≡ e .lent
+      declined-lent = unchanged .lent
+
+      pub declined-reply : e .reply ≡ None
+      declined-reply = unchanged .reply
+
+      pub declined-sent : e .sent ≡ 0
+      declined-sent = unchanged .sent
+
+    abbrev after : Book
+    after = entered (s .rate) before (e .call)
+
+    reports : Reports (e .set) after
+    reports = answered .reports
+
+    pub reports-count : e .set .session .m ≡ after .count
+    reports-count = reports .count
+
+    pub reports-state : e .set .session .state ≡ after .state
+    reports-state = reports .state
+
+    pub reports-stage : e .set .session .shown ≡ after .shown
+    reports-stage = reports .stage
 
   module _ (es : List Event) (t : Trace s es) (called : sinceAfter (s .rate) blank notCalled es .called ≡ true) where
     abbrev digits : List ℕ
@@ -63,7 +96,7 @@ module _ (rate : ℕ) where
     since = sinceAfter (s .rate) blank notCalled es
 
     played : Played (s .rate) last digits T since
-    played = claim rate es t .played called
+    played = claim es t .played called
 
     pub has-length : HasLength digits (s .rate) T
     has-length = played .ends
