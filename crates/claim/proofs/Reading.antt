@@ -1,11 +1,11 @@
 -- Demand 3 read off the contract of `start`, each part at its full strength, so that a contract or a claim that says less is refused here: of
 -- every call of a list what it answers, and at the list's end what came of the dial line. Assumes nothing.
-use Prim.Native.Nat.{ℕ, _+_, _<_}
-use mathlib.Core.Path.{_≡_}
+use Prim.Native.Nat.{ℕ, _+_, _≤_, _<_}
+use mathlib.Core.Path.{_≡_, subst}
 use mathlib.Core.Bool.{true}
 use mathlib.Core.List.{List, [], _∷_, _++_, map}
 use mathlib.Core.Logic.{_⊎_, _↔_}
-use lib.Ieee.{binary32, ofBits}
+use lib.Ieee.{binary32, toBits, ofBits}
 use lib.ListN.{length, replicate}
 use Rattle.reply.specs.declared.Reply.the-variants.{None}
 use Rattle.session.specs.declared.SessionState.the-variants.{Connected}
@@ -13,12 +13,12 @@ use Rattle.schedule.specs.Bounds.{TotalBounds}
 use Rattle.passage.specs.Overture.{HasLength}
 use Rattle.set.specs.declared.Set.{Set}
 use Rattle.set.specs.declared.Made.{Made}
-use Rattle.set.specs.Refusals.{refusalNumber, Declined}
+use Rattle.set.specs.Refusals.{refusalNumber}
 use Rattle.set.specs.Set.{made}
 use Rattle.set.specs.Book.{Book, blank, overture, lengthOf, declinedWith, entered}
 use Rattle.set.specs.Event.{Event, Unchanged}
 use Rattle.claim.specs.Trace.{Trace, setAfter}
-use Rattle.claim.specs.Claim.{SinceDial, notCalled, NeverBack, Reports, Answered, AllAnswered, callOf, bookAfter, sinceAfter, bitsOf, Played, Claim}
+use Rattle.claim.specs.Claim.{SinceDial, notCalled, AllAtMost, NeverBack, Reports, Answered, AllAnswered, callOf, bookAfter, sinceAfter, Played, Claim}
 use Rattle.claim.proofs.start.Reads as start
 
 -- a call in the middle of a list
@@ -26,6 +26,15 @@ at-call : (r : ℕ) (s : Set) (k : Book) (es : List Event) (e : Event) (later : 
     → Answered r (setAfter s es) (bookAfter r k (map callOf es)) e
 at-call r s k [] e later (answered, rest) = answered
 at-call r s k (x ∷ es) e later (answered, rest) = at-call r (x .set) (entered r k (x .call)) es e later rest
+
+-- of two stages shown the newer is not the lower one
+not-lower : (newer : List ℕ) (y : ℕ) (between : List ℕ) (x : ℕ) (older : List ℕ) → NeverBack (newer ++ y ∷ between ++ x ∷ older) → x ≤ y
+not-lower [] y between x older (most, rest) = at-most between most
+  where
+    at-most : (between : List ℕ) → AllAtMost y (between ++ x ∷ older) → x ≤ y
+    at-most [] (le, rest) = le
+    at-most (z ∷ between) (le, rest) = at-most between rest
+not-lower (z ∷ newer) y between x older (most, rest) = not-lower newer y between x older rest
 
 -- from the set that `start` hands out
 module _ (rate : ℕ) (answer : Made) (d : start.Learnt tt (rate, tt) answer (rate, tt)) where
@@ -51,7 +60,7 @@ module _ (rate : ℕ) (answer : Made) (d : start.Learnt tt (rate, tt) answer (ra
     pub never-unsound : refusalNumber (e .refusal) ≡ 6 → ⊥
     never-unsound = answered .sound
 
-    module _ (declined : Declined (e .refusal)) where
+    module _ (declined : refusalNumber (e .refusal) ≡ 0 → ⊥) where
       unchanged : Unchanged (setAfter s es) e
       unchanged = answered .unchanged declined
 
@@ -104,18 +113,18 @@ module _ (rate : ℕ) (answer : Made) (d : start.Learnt tt (rate, tt) answer (ra
     pub in-bounds : TotalBounds (s .rate) (length digits)
     in-bounds = played .bounds
 
-    pub first-samples : bitsOf (since .joined) ≡ bitsOf (overture digits (s .rate) (last .session .m))
+    pub first-samples : map (toBits binary32) (since .joined) ≡ map (toBits binary32) (overture digits (s .rate) (last .session .m))
     first-samples = played .samples
 
     pub zeros-past-T : (j : ℕ) → last .session .m ≡ T + j
-        → bitsOf (since .joined) ≡ bitsOf (overture digits (s .rate) T ++ replicate j (ofBits binary32 0))
+        → map (toBits binary32) (since .joined) ≡ map (toBits binary32) (overture digits (s .rate) T ++ replicate j (ofBits binary32 0))
     zeros-past-T = played .past
 
     pub sum-of-lengths : last .session .m ≡ since .lengths
     sum-of-lengths = played .count
 
-    pub never-back : NeverBack (since .stages)
-    never-back = played .stages
+    pub never-back : (newer : List ℕ) (y : ℕ) (between : List ℕ) (x : ℕ) (older : List ℕ) → since .stages ≡ newer ++ y ∷ between ++ x ∷ older → x ≤ y
+    never-back newer y between x older e = not-lower newer y between x older (subst NeverBack e (played .stages))
 
     pub up-exactly : (last .session .state ≡ Connected) ↔ ((T < last .session .m) ⊎ (since .emptied ≡ true))
     up-exactly = played .up
