@@ -28,6 +28,8 @@ iconAfter s n = iconOf (fill s n .set)
 -- sample k of a fill of n: the icon is a later one with it, if it is at the fill's end at all, and is not with the samples before it
 pub record IsFirst (s : Set) (stage n k : ℕ) : Type 0 where
   pub within : k ≤ n
+  -- sample 0 is none, so it is the answer for an empty fill only
+  pub some : 0 < n → 0 < k
   pub before : 1 < k → iconAfter s (k - 1) < stage
   pub shows : stage ≤ iconAfter s n → stage ≤ iconAfter s k
 
