@@ -13,9 +13,10 @@
  *     gibbonplate_process_out(&set, buffer, n);  // the card wants samples
  *
  * Every call answers. A call that is declined answers one of the numbers of gibbonplate_refusal, and
- * leaves the set and every buffer as they were. Memory that holds no set, or one that no calls can
- * reach, is declined with 6 by every call but the plain readers. All of this is proved, for every
- * content of the memory (docs/PROOF.md). What the proof takes for granted is yours to see to:
+ * leaves the set and every buffer as they were, creation apart. Memory that holds no set, or one that
+ * no calls can reach, is declined with 6 by every call but creation and the plain readers. All of this
+ * is proved, for every content of the memory (docs/PROOF.md). What the proof takes for granted is yours
+ * to see to:
  *
  *   - Each pointer is to memory of its type, as long as the call is told, and may be written where it
  *     is not const. None is null, but that of a buffer of length 0 may be.
@@ -195,6 +196,7 @@ static inline uint32_t gibbonplate_m(const gibbonplate_set *set)
     return gibbonplate_m_in(GIBBONPLATE_OF(set));
 }
 
+/* Samples a second, as the set was made. */
 static inline uint32_t gibbonplate_rate(const gibbonplate_set *set)
 {
     return gibbonplate_rate_in(GIBBONPLATE_OF(set));
