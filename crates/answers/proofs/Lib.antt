@@ -1,2 +1,3 @@
--- Demand 1, from the contract of each call.
+-- Demand 1, from the contract of each call, and read back.
 pub mod Answers
+pub mod Reading
