@@ -57,3 +57,12 @@ samples-65537 = refl
 pub connected-1 : refusalNumber (fillCause up 1) ≡ 5
 unfolding sound soundState stateOk digitsOk allKeys rateOk processor.sound stateNumber fillCause
 connected-1 = refl
+
+-- with two causes the first in the table's order: 2 before 4, and 3 before 5
+pub outbox-3-line-80 : refusalNumber (typingCause (ones 80) 49 3) ≡ 2
+unfolding sound soundState stateOk digitsOk allKeys rateOk idle processor.sound lineFull typingCause
+outbox-3-line-80 = refl
+
+pub connected-65537 : refusalNumber (fillCause up 65537) ≡ 3
+unfolding sound soundState stateOk digitsOk allKeys rateOk processor.sound stateNumber fillCause
+connected-65537 = refl
