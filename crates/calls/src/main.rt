@@ -1,6 +1,7 @@
-// The calls that no other program makes: the cue, the writer of replies, the digits' reader, and every
-// call on sets that are not sound. Buffers are dots, or samples of 1.23, before each call, and are printed
-// whole after it.
+// The calls that no other program makes: the cue, the writer of replies, the digits' reader, the lent
+// oscillator, and every call on sets that are not sound. Buffers are dots, or samples of 1.23, before
+// each call, and are printed whole after it.
+mod lent;
 mod sets;
 mod tried;
 mod unsound;
@@ -9,6 +10,7 @@ fn main() {
     replies();
     cues();
     declined();
+    lent::oscillators();
     unsound::processors();
     unsound::sessions();
     unsound::oscillators();
@@ -56,6 +58,7 @@ fn declined() {
     tried::typed(b"four pluses", sets::pluses(3), b'+', 8);
     tried::typed(b"line of 80", sets::line(80), b'1', 8);
     tried::typed(b"line of 79", sets::line(79), b'1', 8);
+    tried::typed(b"line of 80 and an outbox of 3", sets::line(80), b'1', 3);
     tried::fill_long(sets::dialled(8000));
     tried::calls(b"Connected", sets::connected());
 }

@@ -16,7 +16,7 @@ pub fn calls(name: &[u8], set: Set) {
 }
 
 // The buffer's first `n` bytes are lent.
-pub fn reply(code: u8, n: usize)
+pub(crate) fn reply(code: u8, n: usize)
     requires { ⌜ n ≤ 28 ⌝ }
 {
     let mut page = [0u8; 128];
@@ -60,7 +60,7 @@ pub fn made(rate: u32) {
     end(&mut page, k);
 }
 
-pub fn typed(name: &[u8], set: Set, byte: u8, n: usize)
+pub(crate) fn typed(name: &[u8], set: Set, byte: u8, n: usize)
     requires { ⌜ n ≤ 8 ⌝ }
 {
     let mut page = [0u8; 128];
@@ -156,7 +156,7 @@ fn put_word(page: &mut [u8], at: usize, word: &[u8]) -> usize {
     text::put(page, k, word)
 }
 
-fn put_bits(page: &mut [u8], at: usize, bits: u64, digits: usize) -> usize {
+pub fn put_bits(page: &mut [u8], at: usize, bits: u64, digits: usize) -> usize {
     let k = text::put_byte(page, at, b' ');
     text::put_hex(page, k, bits, digits)
 }
@@ -165,7 +165,7 @@ fn wide(byte: u8) -> u64 {
     byte as u64
 }
 
-fn end(page: &mut [u8], at: usize) {
+pub fn end(page: &mut [u8], at: usize) {
     let k = text::put_byte(page, at, b'\n');
     console::stream::flush(page, k);
 }

@@ -1,9 +1,8 @@
 // 01's list of what makes a set sound, each at its edge: the last that is, and the first that is not.
 use crate::sets;
 use crate::tried;
+use math::TAU;
 use stage::StageState;
-
-const TAU: f64 = 6.283185307179586;
 
 pub fn processors() {
     tried::calls(b"rate 8000", sets::rate(8000));
