@@ -1,17 +1,26 @@
 -- What the contract of `cue` tells of every set: its refusal is 01's cause, a refused cue is 0, and another lies in the digit's tone. A contract
 -- that says less is refused here. And the example of 01's table: "12" at position 2. Assumes nothing.
-use Prim.Native.Nat.{ℕ}
+use Prim.Native.Nat.{ℕ, suc}
 use mathlib.Core.Path.{_≡_, refl}
 use mathlib.Core.Bool.{true}
 use lib.Dec.{lit≤}
+use lib.ListN.{replicate}
+use Rattle.math.specs.Float.{ofNat}
+use Rattle.nco.specs.Nco.{stepOf}
+use Rattle.stage.specs.declared.StageState.the-variants.{Dialling}
+use Rattle.tones.specs.Dial.{digitTones}
+use Rattle.overture.specs.Iteration.{after}
+use Rattle.overture.specs.Iteration as overture
 use Rattle.ascii.specs.Ascii.{ascii}
 use Rattle.keys.proofs.Line.{dials-12}
 use Rattle.passage.specs.Cue.{InDigitTone}
-use Rattle.soundness.specs.Sound.{rateOk}
+use Rattle.keys.specs.Keys.{allKeys}
+use Rattle.soundness.specs.Sound.{rateOk, digitsOk, stateOk, soundState}
 use Rattle.at.specs.declared.Control.the-variants.{Dial}
-use Rattle.at.specs.Processor.{fresh}
+use Rattle.at.specs.Processor.{fresh, withLine}
+use Rattle.at.specs.Processor as processor
 use Rattle.at.proofs.Sound.{sound-fresh}
-use Rattle.session.specs.Session.{stateNumber, digitsHeld, dialling}
+use Rattle.session.specs.Session.{stateNumber, digitsHeld, dialling, idle}
 use Rattle.control.specs.Control.{controlled}
 use Rattle.set.specs.declared.Set.{Set}
 use Rattle.set.specs.Sound.{sound}
@@ -25,8 +34,23 @@ module _ (s : Set) (p : ℕ) (answer : Cued) (d : cue.Learnt tt (s, (p, tt)) ans
   pub cue-answers : (answer .refusal ≡ cueCause s p) × ((cueRefusalNumber (answer .refusal) ≡ 0 → ⊥) → answer .sample ≡ 0)
   cue-answers = (d .refusal, λ declined. d .declined (rw (d .refusal) at declined))
 
-  pub cue-plays : cueRefusalNumber (answer .refusal) ≡ 0 → InDigitTone (digitsHeld (s .session)) (s .rate) p (answer .sample)
-  cue-plays accepted = d .inTone (rw (d .refusal) at accepted)
+  module _ (accepted : cueRefusalNumber (answer .refusal) ≡ 0) where
+    pub in-tone : InDigitTone (digitsHeld (s .session)) (s .rate) p (answer .sample)
+    in-tone = d .inTone (rw (d .refusal) at accepted)
+
+    pub cue-number : answer .sample ≡ suc (in-tone .before)
+    cue-number = in-tone .number
+
+    pub cue-plays :
+        after (in-tone .before) (overture.fresh (digitsHeld (s .session)) (s .rate)) (digitsHeld (s .session)) (s .rate)
+        ≡ Dialling p true (in-tone .a) (in-tone .b) (in-tone .n)
+    cue-plays = in-tone .state
+
+    pub cue-low : in-tone .a .step ≡ stepOf (digitTones (digitsHeld (s .session)) p .low) (ofNat (s .rate))
+    cue-low = in-tone .low
+
+    pub cue-high : in-tone .b .step ≡ stepOf (digitTones (digitsHeld (s .session)) p .high) (ofNat (s .rate))
+    cue-high = in-tone .high
 
 -- a call to 12
 abbrev pub call-12 : Set
@@ -40,3 +64,8 @@ sound-12 = control-sound (freshSet 8000) (fresh-sound 8000 refl) Dial (ascii "12
 pub position-2 : cueRefusalNumber (cueCause call-12 2) ≡ 7
 unfolding cueCause dialling stateNumber
 position-2 = rw (sound-12, dials-12)
+
+-- 6 before 7: a line of 81 bytes on a set that is Idle
+pub unsound-and-idle : (p : ℕ) → cueRefusalNumber (cueCause (moved (freshSet 8000) (withLine (record { bytes = replicate 80 49; len = 81 }) fresh) idle) p) ≡ 6
+unfolding sound soundState stateOk digitsOk allKeys rateOk idle processor.sound cueCause stateNumber
+unsound-and-idle p = refl
