@@ -1,24 +1,28 @@
 -- Demand 3 read off the contract of `start`, each part at its full strength, so that a contract or a claim that says less is refused here: of
 -- every call of a list what it answers, and at the list's end what came of the dial line. Assumes nothing.
 use Prim.Native.Nat.{ℕ, _+_, _≤_, _<_}
-use mathlib.Core.Path.{_≡_, subst}
+use mathlib.Core.Path.{_≡_, refl, subst}
 use mathlib.Core.Bool.{true}
 use mathlib.Core.List.{List, [], _∷_, _++_, map}
 use mathlib.Core.Logic.{_⊎_, _↔_}
-use lib.Ieee.{binary32, toBits, ofBits}
+use lib.Ieee.{Float, binary32, toBits, ofBits}
 use lib.ListN.{length, replicate}
 use Rattle.reply.specs.declared.Reply.the-variants.{None}
-use Rattle.session.specs.declared.SessionState.the-variants.{Connected}
+use Rattle.at.specs.declared.AtProcessor.{AtProcessor}
+use Rattle.at.specs.declared.Control.the-variants.{Nothing, Dial}
+use Rattle.session.specs.declared.SessionState.{SessionState}
+use Rattle.session.specs.declared.SessionState.the-variants.{Idle, Dialling, Answering, Connected}
 use Rattle.schedule.specs.Bounds.{TotalBounds}
 use Rattle.passage.specs.Overture.{HasLength}
 use Rattle.set.specs.declared.Set.{Set}
 use Rattle.set.specs.declared.Made.{Made}
+use Rattle.set.specs.declared.Refusal.{Refusal}
 use Rattle.set.specs.Refusals.{refusalNumber}
 use Rattle.set.specs.Set.{made}
-use Rattle.set.specs.Book.{Book, blank, overture, lengthOf, declinedWith, entered}
+use Rattle.set.specs.Book.{Book, declined, asks, blank, overture, lengthOf, declinedWith, entered}
 use Rattle.set.specs.Event.{Event, Unchanged}
 use Rattle.claim.specs.Trace.{Trace, setAfter}
-use Rattle.claim.specs.Claim.{SinceDial, notCalled, AllAtMost, NeverBack, Reports, Answered, AllAnswered, callOf, bookAfter, sinceAfter, Played, Claim}
+use Rattle.claim.specs.Claim.{SinceDial, notCalled, notedFill, noted, AllAtMost, NeverBack, Reports, Answered, AllAnswered, callOf, bookAfter, sinceAfter, Played, Claim}
 use Rattle.claim.proofs.start.Reads as start
 
 -- a call in the middle of a list
@@ -128,3 +132,20 @@ module _ (rate : ℕ) (answer : Made) (d : start.Learnt tt (rate, tt) answer (ra
 
     pub up-exactly : (last .session .state ≡ Connected) ↔ ((T < last .session .m) ⊎ (since .emptied ≡ true))
     up-exactly = played .up
+
+-- while the book is Dialling and the line is not up, each call's stage is noted: after a dial line alone, after any other call before the older ones
+module _ (r : ℕ) (k : Book) (left : List Float) (stage : ℕ) (h : SinceDial) where
+  pub fill-noted : (state : SessionState) (b : ℕ) → notedFill state b r k left Dialling stage h .stages ≡ stage ∷ h .stages
+  fill-noted Idle b = refl
+  fill-noted Dialling b = refl
+  fill-noted Answering b = refl
+  fill-noted Connected b = refl
+
+  pub call-noted : (line : List ℕ) (p : AtProcessor) → noted (asks Nothing line p) r k left Dialling stage h .stages ≡ stage ∷ h .stages
+  call-noted line p = refl
+
+  pub declined-noted : (cause : Refusal) → noted (declined cause) r k left Dialling stage h .stages ≡ stage ∷ h .stages
+  declined-noted cause = refl
+
+  pub dial-noted : (line : List ℕ) (p : AtProcessor) → noted (asks Dial line p) r k left Dialling stage h .stages ≡ stage ∷ []
+  dial-noted line p = refl
