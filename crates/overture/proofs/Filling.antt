@@ -10,6 +10,7 @@ use lib.Ieee.{Float}
 use Rattle.stage.specs.declared.Shown.{Shown}
 use Rattle.stage.specs.declared.StageState.{StageState}
 use Rattle.stage.specs.Stage.{shownOf}
+use Rattle.stage.specs.Next.{onward}
 use Rattle.overture.specs.declared.Wrote.{Wrote}
 use Rattle.overture.specs.Iteration.{after, samples, shownAfter}
 use Rattle.overture.specs.Writers.{WroteIs}
@@ -47,12 +48,12 @@ module _ (digits : List ℕ) (r : ℕ) (s₀ : StageState) (was : List Float) wh
       pub fits-in : at + w .written ≤ length was
       fits-in = omega (arith, W .fits, rest, F .count)
 
-      pub fill-again : (y : Shown) → y ≡ shownOf s
-          → Filling digits r s₀ was (take at out ++ (ys ++ drop (length out - at) (drop at out))) (w .state) (at + w .written) y
-      fill-again y e = record {
+      pub fill-again : (y : Shown) → y ≡ shownOf s → (t : StageState) → t ≡ onward (w .ended) (w .state) digits r
+          → Filling digits r s₀ was (take at out ++ (ys ++ drop (length out - at) (drop at out))) t (at + w .written) y
+      fill-again y e t et = record {
         count = fits-in;
         buffer = lent digits r at (w .written) s₀ was out ys (F .count) (F .buffer) (rw (sym (F .state)) (W .buffer));
-        state = W .state ∙ rw (F .state, after-add);
+        state = et ∙ W .state ∙ rw (F .state, after-add);
         seen = e ∙ seen-more at (w .written) s (F .state) (W .some) (W .same);
       }
 

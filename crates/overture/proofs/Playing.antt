@@ -116,9 +116,9 @@ module _ {X : Type 0} (f : Source X) (at : X → ℕ → StageState) (ends : X �
   last zero h l = absurd (not-suc-le-zero h)
   last (suc j) h l = after-suc digits r j (at x 0) ∙ rw (state-at j l) (S .next j l)
 
-  pub wrote : (was is : List Float) (y : X) → PlayedIs f count x was is y → 0 < count → count ≤ length was → (s : StageState)
-      → s ≡ onward (ends y count) (at y count) digits r → WroteIs (at x 0) digits r was is (record { state = s; written = count })
-  wrote was is y P some fits s e = record {
+  pub wrote : (was is : List Float) (y : X) → PlayedIs f count x was is y → 0 < count → count ≤ length was → (s : StageState) (ended : Bool)
+      → onward ended s digits r ≡ onward (ends y count) (at y count) digits r → WroteIs (at x 0) digits r was is (record { state = s; ended = ended; written = count })
+  wrote was is y P some fits s ended e = record {
     some = some;
     fits = fits;
     buffer = rw (samples-are count (le-refl count)) (P .buffer);

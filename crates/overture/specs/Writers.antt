@@ -1,5 +1,5 @@
 -- 01, "The set": "where a stage ends, the rest of the buffer, from its first unwritten sample, is lent on to the next". What a stage's writer
--- promises of the part that is lent to it. It stops where its stage ends, so how much it wrote is its own to say.
+-- promises of the part that is lent to it. It stops where its stage ends, so how much it wrote, and whether that is all of the stage, is its own to say.
 use Prim.Native.Nat.{ℕ, zero, suc, _≤_, _<_}
 use mathlib.Core.Path.{_≡_}
 use mathlib.Core.List.{List, [], _∷_, _++_}
@@ -14,6 +14,7 @@ use Rattle.fsk.specs.declared.FskChannel.{FskChannel}
 use Rattle.fsk.specs.Channel.{channelSample, nextChannel}
 use Rattle.stage.specs.declared.StageState.{StageState}
 use Rattle.stage.specs.Stage.{shownOf}
+use Rattle.stage.specs.Next.{onward}
 use Rattle.overture.specs.declared.Wrote.{Wrote}
 use Rattle.overture.specs.declared.Sent.{Sent}
 use Rattle.overture.specs.declared.Pair.{Pair}
@@ -25,7 +26,7 @@ pub record WroteIs (s : StageState) (digits : List ℕ) (r : ℕ) (was is : List
   pub some : 0 < w .written
   pub fits : w .written ≤ length was
   pub buffer : is ≡ samples (w .written) s digits r ++ drop (w .written) was
-  pub state : w .state ≡ after (w .written) s digits r
+  pub state : onward (w .ended) (w .state) digits r ≡ after (w .written) s digits r
   pub same : (k : ℕ) → k < w .written → shownOf (after k s digits r) ≡ shownOf s
 
 -- What makes samples, one after another: the sample of what is in hand, and what is in hand after it.

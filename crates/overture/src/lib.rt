@@ -18,9 +18,10 @@ ghost use Rattle.tones.specs.Mixed.{gatedOf, answerOf};
 ghost use Rattle.overture.specs.Iteration.{after, samples, shownAfter, zeros};
 ghost use Rattle.overture.specs.Writers.{WroteIs, SentIs, PlayedIs, mixing, clicking};
 
-// The state after the samples written, and how many they are.
+// The state after the samples written, whether its stage ended with them, and how many they are.
 pub struct Wrote {
     pub state: StageState,
+    pub ended: bool,
     pub written: usize,
 }
 
@@ -149,8 +150,10 @@ fn write_off_hook(rng: u64, n: u32, digits: &[u8], rate: u32, out: &mut [f32]) -
     let c = play_click(rng, n, rate, count, out);
     let k = c.n;
     let state = StageState::OffHook { rng: c.rng, n: k };
+    let ended = k as u64 >= end;
     Wrote {
-        state: next_state(k as u64 >= end, state, digits, rate),
+        state,
+        ended,
         written: count,
     }
 }
@@ -166,8 +169,10 @@ fn write_dial_tone(a: Nco, b: Nco, n: u32, digits: &[u8], rate: u32, out: &mut [
     let y = p.b;
     let k = runs::saturating_add(n, count);
     let state = StageState::DialTone { a: x, b: y, n: k };
+    let ended = k as u64 >= end;
     Wrote {
-        state: next_state(k as u64 >= end, state, digits, rate),
+        state,
+        ended,
         written: count,
     }
 }
@@ -191,7 +196,8 @@ fn write_dialled(dial: Dial, n: u32, digits: &[u8], rate: u32, out: &mut [f32]) 
         n: k,
     };
     Wrote {
-        state: next_state(d.finished, state, digits, rate),
+        state,
+        ended: d.finished,
         written: 1,
     }
 }
@@ -220,6 +226,7 @@ fn write_dialling(dial: Dial, n: u32, digits: &[u8], rate: u32, out: &mut [f32])
                     b: y,
                     n: k,
                 },
+                ended: false,
                 written: count,
             };
         }
@@ -253,8 +260,10 @@ fn write_ringback(
         n: k,
         ring: progress.ring,
     };
+    let ended = k as u64 >= end;
     Wrote {
-        state: next_state(k as u64 >= end, state, digits, rate),
+        state,
+        ended,
         written: count,
     }
 }
@@ -276,8 +285,10 @@ fn write_ansam(carrier: Nco, env: Nco, n: u32, digits: &[u8], rate: u32, out: &m
         env: y,
         n: k,
     };
+    let ended = k as u64 >= end;
     Wrote {
-        state: next_state(k as u64 >= end, state, digits, rate),
+        state,
+        ended,
         written: count,
     }
 }
@@ -330,6 +341,7 @@ fn write_cj_bits(fsk: FskChannel, n: u32, digits: &[u8], rate: u32, out: &mut [f
             fsk: f,
             silence_n: n,
         },
+        ended: false,
         written: w.written,
     }
 }
@@ -344,8 +356,10 @@ fn write_cj_silence(fsk: FskChannel, n: u32, digits: &[u8], rate: u32, out: &mut
     write_zeros(count, out);
     let k = runs::saturating_add(n, count);
     let state = StageState::Cj { fsk, silence_n: k };
+    let ended = k as u64 >= end;
     Wrote {
-        state: next_state(k as u64 >= end, state, digits, rate),
+        state,
+        ended,
         written: count,
     }
 }
@@ -369,6 +383,7 @@ fn write_connected(digits: &[u8], rate: u32, out: &mut [f32]) -> Wrote
     write_zeros(room, out);
     Wrote {
         state: StageState::Connected,
+        ended: false,
         written: room,
     }
 }
@@ -406,7 +421,8 @@ fn write_stage(state: StageState, digits: &[u8], rate: u32, out: &mut [f32]) -> 
             let w = write_bits(fsk, &frame::CI_PAYLOAD, schedule::CI_BITS, out);
             let f = w.fsk;
             Wrote {
-                state: next_state(f.done >= schedule::CI_BITS, StageState::Ci(f), digits, rate),
+                state: StageState::Ci(f),
+                ended: f.done >= schedule::CI_BITS,
                 written: w.written,
             }
         }
@@ -415,12 +431,8 @@ fn write_stage(state: StageState, digits: &[u8], rate: u32, out: &mut [f32]) -> 
             let w = write_bits(fsk, &frame::CMJM_PAYLOAD, schedule::CMJM_BITS, out);
             let f = w.fsk;
             Wrote {
-                state: next_state(
-                    f.done >= schedule::CMJM_BITS,
-                    StageState::CmJm(f),
-                    digits,
-                    rate,
-                ),
+                state: StageState::CmJm(f),
+                ended: f.done >= schedule::CMJM_BITS,
                 written: w.written,
             }
         }
@@ -429,12 +441,8 @@ fn write_stage(state: StageState, digits: &[u8], rate: u32, out: &mut [f32]) -> 
             let w = write_bits(fsk, &frame::TRAINING_PAYLOAD, schedule::TRAINING_BITS, out);
             let f = w.fsk;
             Wrote {
-                state: next_state(
-                    f.done >= schedule::TRAINING_BITS,
-                    StageState::Training(f),
-                    digits,
-                    rate,
-                ),
+                state: StageState::Training(f),
+                ended: f.done >= schedule::TRAINING_BITS,
                 written: w.written,
             }
         }
@@ -461,9 +469,9 @@ pub fn read(state: StageState, digits: &[u8], rate: u32, out: &mut [f32]) -> Fil
     while at < out.len() {
         shown = s.shown();
         let w = write_stage(s, digits, rate, &mut out[at..]);
-        let next = w.state;
+        let last = w.state;
         at += w.written;
-        s = next;
+        s = next_state(w.ended, last, digits, rate);
     }
     Filled { state: s, shown }
 }

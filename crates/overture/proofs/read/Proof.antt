@@ -40,14 +40,20 @@ write-stage-requires c κs = part-some _ _ _ _ _ _ _ _ (c .before .before .befor
 add-at : tie.Need-add-at Inv-loop μ-loop
 add-at c = omega (arith, fits-in _ _ _ _ _ _ _ _ (c .before .before .before .before .before .before .before .loop .inv) _ _ (c .before .before .before .write-stage .ensures), c .before .before .before .before .before .before .before .before .before .before .before .good)
 
+next-state-requires : tie.Need-next-state-requires Inv-loop μ-loop
+next-state-requires c κs = search needs
+
 loop-less : tie.Need-loop-less Inv-loop μ-loop
 loop-less c =
-    let F = c .before .before .before .before .before .before .before .loop .inv in
-    let W = c .before .before .before .write-stage .ensures in
+    let w = c .before .before .before .before in
+    let F = w .before .before .before .before .loop .inv in
+    let W = w .write-stage .ensures in
     omega (arith, fits-in _ _ _ _ _ _ _ _ F _ _ W, W .some)
 
 loop-again : tie.Need-loop-again Inv-loop μ-loop
-loop-again c = fill-again _ _ _ _ _ _ _ _ (c .before .before .before .before .before .before .before .loop .inv) _ _ (c .before .before .before .write-stage .ensures) _ (c .before .before .before .before .before .shown2 .ensures)
+loop-again c =
+    let w = c .before .before .before .before in
+    fill-again _ _ _ _ _ _ _ _ (w .before .before .before .before .loop .inv) _ _ (w .write-stage .ensures) _ (w .before .before .shown2 .ensures) _ (c .next-state .ensures)
 
 same-length : tie.Need-same-length Inv-loop μ-loop
 same-length c = fill-long _ _ _ _ _ _ _ _ (c .before .loop .inv)
@@ -73,6 +79,7 @@ read-spec =
     part-write-stage-end
     write-stage-requires
     add-at
+    next-state-requires
     loop-less
     loop-again
     same-length

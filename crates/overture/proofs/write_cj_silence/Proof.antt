@@ -17,25 +17,20 @@ write-zeros-requires c κs = search needs
 saturating-add-requires : tie.Need-saturating-add-requires
 saturating-add-requires c κs = search needs
 
-cast-next-state : tie.Need-cast-next-state
-cast-next-state c = search needs
-
-next-state-requires : tie.Need-next-state-requires
-next-state-requires c κs = search needs
+cast-ended : tie.Need-cast-ended
+cast-ended c = search needs
 
 same-length : tie.Need-same-length
 same-length c = search needs
 
 returns : tie.Need-returns
 returns c =
-    let z = c .before .before .before .before in
+    let z = c .before .before .before in
     let l = z .before .before in
-    cj-silence-wrote _ _ _ _ _ _ _ _ _ (l .samples-left .ensures) (le-refl _) (l .samples-left .ensures .some (l .before .before .before .before .pre .1)) (c .before .saturating-add .ensures) _
+    cj-silence-wrote _ _ _ _ _ _ _ _ _ (l .samples-left .ensures) (le-refl _) (l .samples-left .ensures .some (l .before .before .before .before .pre .1)) (c .saturating-add .ensures) _
     (l .before .before .before .before .pre .0)
     (l .before .stage-samples-for .ensures)
     (z .write-zeros .ensures)
-    _
-    (c .next-state .ensures)
 
 pub write-cj-silence-spec : {M : Type 1} → statement M
-write-cj-silence-spec = tie.close (tie.spec stage-samples-for-requires samples-left-requires write-zeros-requires saturating-add-requires cast-next-state next-state-requires same-length returns)
+write-cj-silence-spec = tie.close (tie.spec stage-samples-for-requires samples-left-requires write-zeros-requires saturating-add-requires cast-ended same-length returns)

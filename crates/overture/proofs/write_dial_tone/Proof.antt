@@ -17,23 +17,19 @@ play-tones-requires c κs = search needs
 saturating-add-requires : tie.Need-saturating-add-requires
 saturating-add-requires c κs = search needs
 
-cast-next-state : tie.Need-cast-next-state
-cast-next-state c = search needs
-
-next-state-requires : tie.Need-next-state-requires
-next-state-requires c κs = search needs
+cast-ended : tie.Need-cast-ended
+cast-ended c = search needs
 
 same-length : tie.Need-same-length
 same-length c = search needs
 
 returns : tie.Need-returns
 returns c =
-    let o = c .before .before .before .before .before .before in
+    let o = c .before .before .before .before .before in
     let l = o .before .before in
-    dial-tone-wrote _ _ _ _ _ _ _ _ _ (l .samples-left .ensures) (le-refl _) (l .samples-left .ensures .some (l .before .before .before .before .pre)) (c .before .saturating-add .ensures) _ _ _ _
+    dial-tone-wrote _ _ _ _ _ _ _ _ _ (l .samples-left .ensures) (le-refl _) (l .samples-left .ensures .some (l .before .before .before .before .pre)) (c .saturating-add .ensures) _ _ _
     (l .before .stage-samples-for .ensures)
     (o .play-tones .ensures)
-    (c .next-state .ensures)
 
 pub write-dial-tone-spec : {M : Type 1} → statement M
-write-dial-tone-spec = tie.close (tie.spec stage-samples-for-requires samples-left-requires play-tones-requires saturating-add-requires cast-next-state next-state-requires same-length returns)
+write-dial-tone-spec = tie.close (tie.spec stage-samples-for-requires samples-left-requires play-tones-requires saturating-add-requires cast-ended same-length returns)

@@ -18,21 +18,18 @@ narrow-requires c κs = search needs
 slice-write-out : tie.Need-slice-write-out
 slice-write-out c = search needs
 
-next-state-requires : tie.Need-next-state-requires
-next-state-requires c κs = search needs
-
 same-length : tie.Need-same-length
 same-length c = search needs
 
 returns : tie.Need-returns
 unfolding sampleNext stateNext generateOf diallingOf
 returns c =
-    let d = c .before .before .before .before .before in
+    let d = c .before .before .before .before in
     let i = d .before in
-    one-wrote _ _ _ _ _ _ _ (i .before .before .before .pre)
-    (rw (c .before .narrow .ensures, d .dial-step .ensures, i .saturating-inc .ensures))
-    (c .next-state .ensures ∙ rw (d .dial-step .ensures, i .saturating-inc .ensures))
+    one-wrote _ _ _ _ _ _ _ _ (i .before .before .before .pre)
+    (rw (c .narrow .ensures, d .dial-step .ensures, i .saturating-inc .ensures))
+    (rw (d .dial-step .ensures, i .saturating-inc .ensures))
     refl
 
 pub write-dialled-spec : {M : Type 1} → statement M
-write-dialled-spec = tie.close (tie.spec saturating-inc-requires dial-step-requires narrow-requires slice-write-out next-state-requires same-length returns)
+write-dialled-spec = tie.close (tie.spec saturating-inc-requires dial-step-requires narrow-requires slice-write-out same-length returns)

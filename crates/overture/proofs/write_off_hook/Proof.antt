@@ -13,20 +13,17 @@ samples-left-requires c κs = search needs
 play-click-requires : tie.Need-play-click-requires
 play-click-requires c κs = search needs
 
-cast-next-state : tie.Need-cast-next-state
-cast-next-state c = search needs
-
-next-state-requires : tie.Need-next-state-requires
-next-state-requires c κs = search needs
+cast-ended : tie.Need-cast-ended
+cast-ended c = search needs
 
 same-length : tie.Need-same-length
 same-length c = search needs
 
 returns : tie.Need-returns
 returns c =
-    let o = c .before .before .before in
+    let o = c .before .before in
     let l = o .before .before in
-    off-hook-wrote _ _ _ _ _ _ _ _ (l .before .before .before .before .pre) (l .samples-left .ensures) (l .before .stage-samples-for .ensures) _ (o .play-click .ensures) _ (c .next-state .ensures)
+    off-hook-wrote _ _ _ _ _ _ _ _ (l .before .before .before .before .pre) (l .samples-left .ensures) (l .before .stage-samples-for .ensures) _ (o .play-click .ensures)
 
 pub write-off-hook-spec : {M : Type 1} → statement M
-write-off-hook-spec = tie.close (tie.spec stage-samples-for-requires samples-left-requires play-click-requires cast-next-state next-state-requires same-length returns)
+write-off-hook-spec = tie.close (tie.spec stage-samples-for-requires samples-left-requires play-click-requires cast-ended same-length returns)

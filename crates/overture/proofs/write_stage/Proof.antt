@@ -37,9 +37,6 @@ slice-aggregate-write-bits c = search needs
 write-bits-requires : tie.Need-write-bits-requires
 write-bits-requires c κs = search needs
 
-next-state-requires : tie.Need-next-state-requires
-next-state-requires c κs = search needs
-
 enum-known-state-6 : tie.Need-enum-known-state-6
 enum-known-state-6 c = search needs
 
@@ -55,9 +52,6 @@ slice-aggregate-write-bits-2 c = search needs
 write-bits-requires-2 : tie.Need-write-bits-requires-2
 write-bits-requires-2 c κs = search needs
 
-next-state-requires-2 : tie.Need-next-state-requires-2
-next-state-requires-2 c κs = search needs
-
 enum-known-state-8 : tie.Need-enum-known-state-8
 enum-known-state-8 c = search needs
 
@@ -72,9 +66,6 @@ slice-aggregate-write-bits-3 c = search needs
 
 write-bits-requires-3 : tie.Need-write-bits-requires-3
 write-bits-requires-3 c κs = search needs
-
-next-state-requires-3 : tie.Need-next-state-requires-3
-next-state-requires-3 c κs = search needs
 
 enum-told : tie.Need-enum-told
 enum-told c = search needs
@@ -111,8 +102,8 @@ same-length-5 c = search needs
 
 returns-5 : tie.Need-returns-5
 returns-5 c =
-    let w = c .before .before .before .before .before in
-    rw (w .before .before .before .before .state5 .given .1) (ci-wrote _ _ _ _ _ _ (w .write-bits .ensures) _ (c .next-state .ensures))
+    let w = c .before .before .before .before in
+    rw (w .before .before .before .before .state5 .given .1) (ci-wrote _ _ _ _ _ _ (w .write-bits .ensures))
 
 same-length-6 : tie.Need-same-length-6
 same-length-6 c = search needs
@@ -125,8 +116,8 @@ same-length-7 c = search needs
 
 returns-7 : tie.Need-returns-7
 returns-7 c =
-    let w = c .before .before .before .before .before in
-    rw (w .before .before .before .before .state7 .given .1) (cm-jm-wrote _ _ _ _ _ _ (w .write-bits2 .ensures) _ (c .next-state2 .ensures))
+    let w = c .before .before .before .before in
+    rw (w .before .before .before .before .state7 .given .1) (cm-jm-wrote _ _ _ _ _ _ (w .write-bits2 .ensures))
 
 same-length-8 : tie.Need-same-length-8
 same-length-8 c = search needs
@@ -139,8 +130,8 @@ same-length-9 c = search needs
 
 returns-9 : tie.Need-returns-9
 returns-9 c =
-    let w = c .before .before .before .before .before in
-    rw (w .before .before .before .before .state9 .given .1) (training-wrote _ _ _ _ _ _ (w .write-bits3 .ensures) _ (c .next-state3 .ensures))
+    let w = c .before .before .before .before in
+    rw (w .before .before .before .before .state9 .given .1) (training-wrote _ _ _ _ _ _ (w .write-bits3 .ensures))
 
 same-length-10 : tie.Need-same-length-10
 same-length-10 c = search needs
@@ -163,19 +154,16 @@ write-stage-spec =
     enum-known-state-5
     slice-aggregate-write-bits
     write-bits-requires
-    next-state-requires
     enum-known-state-6
     write-ansam-requires
     enum-known-state-7
     slice-aggregate-write-bits-2
     write-bits-requires-2
-    next-state-requires-2
     enum-known-state-8
     write-cj-requires
     enum-known-state-9
     slice-aggregate-write-bits-3
     write-bits-requires-3
-    next-state-requires-3
     enum-told
     write-connected-requires
     same-length
