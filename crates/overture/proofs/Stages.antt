@@ -10,7 +10,6 @@ use lib.Dec.{leb}
 use lib.ListN.{length, drop, set}
 use lib.Ieee.{Float}
 use borrow.Author.Tests.{le-leb, lt-leb, eq-eqb}
-use Rattle.math.specs.Float as float
 use Rattle.math.specs.Float.{f64, one}
 use Rattle.math.specs.Narrow.{narrowed}
 use Rattle.nco.specs.declared.Nco.{Nco}

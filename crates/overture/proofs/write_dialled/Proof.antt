@@ -1,5 +1,5 @@
 -- `write_dialled` meets its contract: it is one step of the iteration. Assumes nothing.
-use mathlib.Core.Path.{refl, _∙_}
+use mathlib.Core.Path.{refl}
 use Rattle.stage.specs.Next.{sampleNext, stateNext, generateOf, diallingOf}
 use Rattle.overture.proofs.Stages.{one-wrote}
 use borrow.Author.Needs.{needs}
