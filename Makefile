@@ -22,11 +22,12 @@ test: rt
 oracle:
 	tests/oracle/build
 
-# What `call` writes, held against the Rust and played to a decoder of keys.
+# What `call` writes, held against the Rust and played to decoders of keys and of bits; and what the programs say where something fails.
 listen: rt
-	rt check call
+	rt check call wall tap
 	tests/call
 	tests/decode
+	tests/failures
 
 # The port against the Rust: ns a sample, and the samples' bits compared.
 bench: rt

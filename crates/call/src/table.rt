@@ -9,7 +9,10 @@ pub fn print(firsts: &[u32; 11], rate: u32, up: u32) {
     );
     k = put_stages(&mut page, k, firsts, rate);
     k = put_end(&mut page, k, between(1, firsts[10]), rate, up);
-    console::stream::flush(&page, k);
+    if console::stream::flush(&page, k) {
+        return;
+    }
+    os::fail(b"call: standard output cannot be written");
 }
 
 // How many samples there are from one to before another.

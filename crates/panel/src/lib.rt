@@ -24,7 +24,7 @@ struct Panel {
     bits: bool,
     // how much of the page is written
     at: usize,
-    // the input has not ended
+    // the input has not ended, and nothing has failed
     open: bool,
 }
 
@@ -65,9 +65,10 @@ fn read_all(p: Panel, samples: &mut [f32], out: &mut [u8]) -> Panel {
 // One read, its lines, and their answers.
 fn read_some(p: Panel, samples: &mut [f32], out: &mut [u8]) -> Panel {
     let mut buffer = [0u8; 4096];
-    let got = console::stream::read(&mut buffer);
+    let input = console::stream::read(&mut buffer);
+    let got = input.count;
     if got == 0 {
-        return closed(p, samples, out);
+        return ended(p, input.good, samples, out);
     }
     let s = take_all(p, &buffer[..got], samples, out);
     flushed(s, out)
@@ -96,8 +97,21 @@ fn take(p: Panel, byte: u8, samples: &mut [f32], out: &mut [u8]) -> Panel {
     }
 }
 
+// No more input came: it has ended, or it cannot be read.
+fn ended(p: Panel, good: bool, samples: &mut [f32], out: &mut [u8]) -> Panel
+    ensures { λ r. ⌜ r .open ≡ false ⌝ }
+{
+    if good {
+        return closed(p, samples, out);
+    }
+    cannot_read(p.bits);
+    Panel { open: false, ..p }
+}
+
 // What the input's end leaves: a last line without its line feed.
-fn closed(p: Panel, samples: &mut [f32], out: &mut [u8]) -> Panel {
+fn closed(p: Panel, samples: &mut [f32], out: &mut [u8]) -> Panel
+    ensures { λ r. ⌜ r .open ≡ false ⌝ }
+{
     let parser = p.parser;
     let call = parser.finish();
     let s = perform(p, call, samples, out);
@@ -113,9 +127,37 @@ fn settled(p: Panel, out: &[u8]) -> Panel {
     p
 }
 
-fn flushed(p: Panel, out: &[u8]) -> Panel {
-    let front = console::stream::flush(out, p.at);
-    Panel { at: front, ..p }
+// Writes the page out, and starts it again. Once that has failed nothing more is written.
+fn flushed(p: Panel, out: &[u8]) -> Panel
+    ensures { λ r. ⌜ r .at ≡ 0 ⌝ }
+{
+    let open = p.open && written(p.bits, out, p.at);
+    Panel { at: 0, open, ..p }
+}
+
+fn written(bits: bool, out: &[u8], at: usize) -> bool {
+    if console::stream::flush(out, at) {
+        return true;
+    }
+    cannot_write(bits);
+    false
+}
+
+// A line on standard error, with the system's word for why.
+fn cannot_read(bits: bool) {
+    if bits {
+        os::fail(b"tap: standard input cannot be read");
+        return;
+    }
+    os::fail(b"wall: standard input cannot be read");
+}
+
+fn cannot_write(bits: bool) {
+    if bits {
+        os::fail(b"tap: standard output cannot be written");
+        return;
+    }
+    os::fail(b"wall: standard output cannot be written");
 }
 
 // What a line leaves: the set after its call, and, without `tap`'s second line, 01's line on the page.

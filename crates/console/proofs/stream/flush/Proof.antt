@@ -1,4 +1,4 @@
--- `console::stream::flush` meets its contract: the part that it writes is as long as the place says. Assumes nothing.
+-- `console::stream::flush` is safe: the part that it writes is as long as the place says. Assumes nothing.
 use mathlib.Core.Path.{sym}
 use borrow.Author.Needs.{needs}
 use lib.Seq.{length-take-le}
