@@ -1,5 +1,6 @@
 // Makes a call: types the dial line, fills buffers of uneven lengths until the line is up, writes the
 // samples up to T to a WAV file, and prints when each stage came.
+mod file;
 mod play;
 mod stages;
 mod table;
@@ -64,16 +65,7 @@ fn call(digits: &[u8], rate: u32, path: &[u8]) {
     let dialled = play::dial(rate, digits);
     let up = stages::find_all(dialled, &mut samples, &mut firsts);
     let total = table::between(1, firsts[10]);
-    let file = os::open_overwrite(path);
-    if file < 0 {
-        words::cannot_write(path);
-        return;
-    }
-    if play::record(file, dialled, total, &mut samples) {
-        libc::close(file);
+    if file::write(path, dialled, total, &mut samples) {
         table::print(&firsts, rate, up.m());
-        return;
     }
-    words::cannot_write(path);
-    libc::close(file);
 }

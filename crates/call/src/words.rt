@@ -8,15 +8,50 @@ pub fn say(line: &[u8]) {
 
 // Says that a path cannot be written, and the system's word for why.
 pub fn cannot_write(path: &[u8]) {
-    let mut line = [0u8; 4200];
-    let mut k = text::put(
-        &mut line,
-        0,
+    fail_of(
         b"call: FILE has to be a path that can be written, and ",
+        path,
+        b" is not",
     );
-    k = text::put(&mut line, k, path);
-    k = text::put(&mut line, k, b" is not");
+}
+
+pub fn cannot_write_first(part: &[u8]) {
+    fail_of(
+        b"call: FILE has to be a path that can be written, and ",
+        part,
+        b", which is written first, is not",
+    );
+}
+
+pub fn cannot_remove(part: &[u8]) {
+    fail_of(b"call: ", part, b" is left behind");
+}
+
+fn fail_of(before: &[u8], path: &[u8], after: &[u8]) {
+    let mut line = [0u8; 16640];
+    let mut k = text::put(&mut line, 0, before);
+    k = put_quoted(&mut line, k, path);
+    k = text::put(&mut line, k, after);
     fail(&line, k);
+}
+
+fn put_quoted(line: &mut [u8], at: usize, path: &[u8]) -> usize {
+    let mut k = text::put_byte(line, at, b'"');
+    let mut i: usize = 0;
+    while i < path.len() {
+        k = put_shown(line, k, path[i]);
+        i += 1;
+    }
+    text::put_byte(line, k, b'"')
+}
+
+// A byte that would end the quotes or the line is written as its number.
+fn put_shown(line: &mut [u8], at: usize, byte: u8) -> usize {
+    if (byte < b' ') | (byte == 127) | (byte == b'"') | (byte == b'\\') {
+        let k = text::put(line, at, b"\\x");
+        return text::put_hex(line, k, byte as u64, 2);
+    }
+    text::put_byte(line, at, byte)
 }
 
 // The line's first `k` bytes, a colon and the system's word.
