@@ -117,17 +117,26 @@ static int process(jack_nframes_t frames, void *with)
     jack_nframes_t start = jack_last_frame_time(s->client);
     size_t at;
 
-    if (s->rate != gibbonplate_rate(&s->set)) {
+    if (s->rate != s->made) {
         show_event event = {0};
         event.fresh = true;
-        gibbonplate_new(&s->set, s->rate);
+        event.rate = s->rate;
+        event.refusal = gibbonplate_new(&s->set, s->rate);
+        s->made = s->rate;
+        s->mute = event.refusal != GIBBONPLATE_ACCEPTED;
         s->rest = 0;
         tell(s, &s->set, start, 0, event);
     }
-    typed(s, start);
-    passed(s, start, frames);
-    for (at = 0; at < frames; at += GIBBONPLATE_MAX_FILL)
-        fill(s, out, start, at, frames - at < GIBBONPLATE_MAX_FILL ? frames - at : GIBBONPLATE_MAX_FILL);
+    if (s->mute) {
+        /* no set plays at this rate: silence, and what is typed is dropped, until the rate changes again */
+        jack_ringbuffer_read_advance(s->keys, jack_ringbuffer_read_space(s->keys));
+        memset(out, 0, frames * sizeof *out);
+    } else {
+        typed(s, start);
+        passed(s, start, frames);
+        for (at = 0; at < frames; at += GIBBONPLATE_MAX_FILL)
+            fill(s, out, start, at, frames - at < GIBBONPLATE_MAX_FILL ? frames - at : GIBBONPLATE_MAX_FILL);
+    }
     if (s->take && jack_ringbuffer_write(s->take, (const char *)out, frames * sizeof *out) < frames * sizeof *out)
         add(&s->lost);
     s->frame += frames;
@@ -188,7 +197,7 @@ bool show_open(show *s, const char *server, bool take)
         fputs("show: no JACK server answers; start one, as `jackd -d alsa`, or run show by PipeWire's pw-jack\n", stderr);
         return false;
     }
-    s->rate = jack_get_sample_rate(s->client);
+    s->rate = s->made = jack_get_sample_rate(s->client);
     s->buffer = jack_get_buffer_size(s->client);
     if (gibbonplate_new(&s->set, s->rate) != GIBBONPLATE_ACCEPTED) {
         fprintf(stderr, "show: the server runs at %u samples a second; the set takes 8000 to 192000\n", s->rate);

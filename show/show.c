@@ -201,8 +201,10 @@ static void heard(desk *d, panel *p, const show_event *e, uint64_t lit)
     }
     if (e->refusal)
         snprintf(said, sizeof said, "declined with %u", e->refusal);
-    if (e->fresh)
-        snprintf(said, sizeof said, "the rate is now %u: a fresh set", gibbonplate_rate(&e->set));
+    if (e->fresh) {
+        snprintf(said, sizeof said, e->refusal ? "the rate is now %u, not 8000 to 192000: silence" : "the rate is now %u: a fresh set", e->rate);
+        p->total = 0;
+    }
     if (said[0])
         panel_say(p, said);
     if (gibbonplate_state(&e->set) == GIBBONPLATE_DIALLING && gibbonplate_m(&e->set) == 0)

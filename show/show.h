@@ -18,9 +18,10 @@ typedef struct {
 typedef struct {
     uint64_t frame;        /* from the start of the show, which is the take's first sample */
     jack_nframes_t time;   /* the same in the server's count */
-    uint8_t refusal;       /* of a typed byte */
+    uint8_t refusal;       /* of a typed byte, or of a new rate */
     bool carrier;
     bool fresh;            /* the server's rate changed, and the set was made anew */
+    uint32_t rate;         /* the new one */
     gibbonplate_answer answer;
     gibbonplate_set set;
 } show_event;
@@ -33,6 +34,8 @@ typedef struct {
     jack_ringbuffer_t *take;   /* samples, from it; null if nobody takes them */
     /* the callback's own */
     gibbonplate_set set;
+    uint32_t made;  /* the rate for which the set was made */
+    bool mute;      /* no set can be made for it */
     bool carrier;
     uint64_t rest;  /* of nanoseconds times the rate, carried over to the next buffer */
     uint64_t frame;
