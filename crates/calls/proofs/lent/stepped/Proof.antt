@@ -17,7 +17,7 @@ use prog.Wp.{Heap, Calls, Loops, WpFn, Tables}
 use ghost.Atoms.{Atoms, sem}
 use contract.Monad.{Fun, fact}
 use contract.Running.{givenOf, tables, tablesOf}
-use types.Kit.{Given, ‵, raw, _⊛_, some, later, _$_, _∵_, !, qed, by, move, keep, drop, use1, use2, use3, split, join, pick, fsplit, fjoin, fpick, fpack, suffices, frame, await, rewrite, done}
+use types.Kit.{Given, ‵, raw, _⊛_, some, later, _$_, _∵_, !, qed, by, move, keep, drop, use1, use2, use3, split, join, pick, fsplit, fjoin, fpick, fpack, suffices, await, rewrite, done}
 use types.Tokens.{lft-new, lft-end}
 use types.Run.{look, init, forget, stop, from, load, addr, of-opd, and-then, no-more, assigns, land, returns, enter, alloc1, alloc0, params1, pass1, pass0, free1, free0}
 use types.Part.{agg}
@@ -26,7 +26,7 @@ use sound.WpLaws.{FmC, fmOf, WpFn-mono}
 use denote.RattleType.{owns}
 use denote.Laws.{Is, shows}
 use denote.Memory.{mem, cellAt, partAt, partOf}
-use denote.Floats.{float-lawful, passes}
+use denote.Floats.{float-lawful}
 use denote.Builtin.{f64}
 use denote.Exit.{yes}
 use denote.Ref.{RefT, MutRef}
@@ -42,7 +42,6 @@ use denote.Triple.Table.{entered, cited}
 use denote.Triple.Walked.{says, Stays, stay-none, walkOf, goes-none, Walks, ends-at, walked, walk-meets}
 use denote.Triple.Clauses.{ensured, lasts}
 use Rattle.nco.specs.declared.Nco.{Nco}
-use Rattle.nco.specs.declared.Stepped.{Stepped}
 use Rattle.nco.specs.Lent.{lentSample, lentNco}
 use Rattle.nco.proofs.Nco as T
 use Rattle.nco.proofs.Nco.Laws as T′

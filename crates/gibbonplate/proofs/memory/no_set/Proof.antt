@@ -2,8 +2,6 @@
 use borrow.Author.Needs.{needs}
 use Rattle.gibbonplate.proofs.memory.no_set.Statement.{statement}
 use Rattle.gibbonplate.proofs.memory.no_set.Tie as tie
-use Rattle.at.proofs.AtProcessor.new.Reads as AtProcessor-new-reads
-use Rattle.session.proofs.Session.new.Reads as Session-new-reads
 
 new-requires : tie.Need-new-requires
 new-requires c κs = search needs
