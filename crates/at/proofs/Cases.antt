@@ -10,7 +10,8 @@ use Rattle.ascii.specs.Upper.{upper}
 use Rattle.reply.specs.declared.Code.the-variants.{NoCarrier, Error}
 use Rattle.reply.specs.declared.Reply.{Reply}
 use Rattle.reply.specs.declared.Reply.the-variants.{None, One}
-use Rattle.command.specs.Line.{emptyLine, pushed, uppercased}
+use Rattle.command.specs.Line.{soundLine, pushed, uppercased}
+use Rattle.command.proofs.Cases.{ones}
 use Rattle.command.specs.Command.{begins, is, commandOf}
 use Rattle.at.specs.declared.AtProcessor.{AtProcessor}
 use Rattle.at.specs.declared.Control.the-variants.{Dial}
@@ -91,17 +92,14 @@ unfolding downReply
 down = (refl, refl)
 
 -- sound: line <= 80; pluses <= 3; down time < 700 ms
-abbrev lineOfLength : ℕ → AtProcessor
-lineOfLength n = withLine (record { bytes = emptyLine .bytes; len = n }) fresh
-
-pub sound-line : (sound (lineOfLength 80) ≡ true) × (sound (lineOfLength 81) ≡ false)
-unfolding sound
+pub sound-line : (sound (withLine (ones 80) fresh) ≡ true) × (sound (withLine (ones 81) fresh) ≡ false)
+unfolding sound soundLine
 sound-line = (refl, refl)
 
 pub sound-pluses : (sound (withEscape 3 0 fresh) ≡ true) × (sound (withEscape 4 0 fresh) ≡ false)
-unfolding sound
+unfolding sound soundLine
 sound-pluses = (refl, refl)
 
 pub sound-down : (sound (withCarrier true 699_999_999 fresh) ≡ true) × (sound (withCarrier true 700_000_000 fresh) ≡ false)
-unfolding sound
+unfolding sound soundLine
 sound-down = (refl, refl)

@@ -8,7 +8,7 @@ use mathlib.Core.List.{List, [], _∷_, _++_}
 use mathlib.Core.Bool.{Bool, true, false, _&&_}
 use lib.ListN.{length}
 use lib.Dec.{eqb}
-use borrow.Author.Tests.{eqb-false, leb-true}
+use borrow.Author.Tests.{eqb-false}
 use Rattle.command.specs.Line.{typed, soundLine, pushed}
 use Rattle.command.proofs.Pushed as line
 use Rattle.at.specs.declared.AtProcessor.{AtProcessor}
@@ -27,15 +27,15 @@ pub joins : (p : AtProcessor) (byte : ℕ) → sound p ≡ true → length (line
 unfolding lineFull
 joins p byte e long mode lf cr f =
     let g : (eqb (lineOf p .len) 80 && true) ≡ false = rw (mode, lf, cr) at f in
-    line.joins (lineOf p) byte long (room-left (lineOf p .len) (leb-true _ _ (parts p e .line)) _ refl g)
+    line.joins (lineOf p) byte long (room-left (lineOf p .len) (line.short (lineOf p) (parts p e .line)) _ refl g)
 
 sound-line : {p : AtProcessor} {byte : ℕ} {carrier : Bool} {room : ℕ} {f : Fed} {bytes : List ℕ} → soundLine (lineOf p) ≡ true → Typed p byte carrier room f bytes → soundLine (f .line) ≡ true
-sound-line l dropped = refl
+sound-line l dropped = line.sound-empty
 sound-line {p} l ends = rw (line.sound-uppercased (lineOf p)) l
-sound-line l grows = refl
-sound-line l (waits w) = refl
-sound-line l (sends r) = refl
-sound-line l (declined r) = refl
+sound-line l grows = line.sound-empty
+sound-line l (waits w) = line.sound-empty
+sound-line l (sends r) = line.sound-empty
+sound-line l (declined r) = line.sound-empty
 
 pub few-after : (p : AtProcessor) (byte : ℕ) (carrier : Bool) (room : ℕ) → sound p ≡ true → length (afterAtdt (typedByte p byte carrier room)) ≤ 76
 few-after p byte carrier room e =

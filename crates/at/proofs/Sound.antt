@@ -10,7 +10,7 @@ use borrow.Author.Tests.{leb-true, leb-false, ltb-true, le-leb, lt-ltb}
 use Rattle.command.specs.declared.Command.{Command}
 use Rattle.command.specs.declared.Command.the-variants.{At, Atz, Ati, Ata, Ath, Ato, Atdt, Unknown}
 use Rattle.command.specs.Line.{soundLine}
-use Rattle.command.proofs.Pushed.{sound-pushed}
+use Rattle.command.proofs.Pushed.{sound-empty, sound-pushed}
 use Rattle.at.specs.declared.AtProcessor.{AtProcessor}
 use Rattle.at.specs.declared.Fed.{Fed}
 use Rattle.at.specs.Processor.{commandMode, lineOf, pluses, seen, downTime, holdTime, sound, fresh, withEscape, added}
@@ -61,7 +61,7 @@ kept-executed Unknown carrier p s = with-ranges (s .line) (omega arith)
 
 kept-typed : {p : AtProcessor} {byte : ℕ} {carrier : Bool} {room : ℕ} {f : Fed} {bytes : List ℕ} → Sound p → Typed p byte carrier room f bytes → Sound (f .processor)
 kept-typed s dropped = s
-kept-typed {carrier = carrier} s ends = kept-executed _ carrier _ (with-ranges refl (omega arith))
+kept-typed {carrier = carrier} s ends = kept-executed _ carrier _ (with-ranges sound-empty (omega arith))
 kept-typed {p} {byte} s grows = with-ranges (sound-pushed (lineOf p) byte (s .line)) (omega arith)
 kept-typed {p} {byte} s (waits w) = with-ranges (s .line) (omega (arith, withheld-few p byte w))
 kept-typed s (sends r) = with-ranges (s .line) (omega arith)
@@ -107,5 +107,4 @@ unfolding forcedData
 sound-forced p e = let s = parts p e in whole (forcedData p) (with-ranges (s .line) (omega arith))
 
 pub sound-fresh : sound fresh ≡ true
-unfolding sound
-sound-fresh = refl
+sound-fresh = whole fresh (with-ranges sound-empty (omega arith))

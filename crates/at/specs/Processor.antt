@@ -23,51 +23,31 @@ seen p = p .«carrier_up»
 abbrev pub downTime : AtProcessor → ℕ
 downTime p = p .«carrier_down_for»
 
-abbrev pub withMode : Bool → AtProcessor → AtProcessor
-withMode mode p =
+-- the processor with this mode, line, escape (pluses held and idle time) and carrier (mark and down time)
+abbrev changed : Bool → Line → ℕ → ℕ → Bool → ℕ → AtProcessor → AtProcessor
+changed mode line held idle mark down p =
     record {
       «in_command_mode» = mode;
-      «cmd_buf» = lineOf p;
-      idle = p .idle;
-      «plus_count» = pluses p;
-      «carrier_up» = seen p;
-      «carrier_down_for» = downTime p;
-    }
-
-abbrev pub withLine : Line → AtProcessor → AtProcessor
-withLine line p =
-    record {
-      «in_command_mode» = commandMode p;
       «cmd_buf» = line;
-      idle = p .idle;
-      «plus_count» = pluses p;
-      «carrier_up» = seen p;
-      «carrier_down_for» = downTime p;
-    }
-
--- these pluses and this idle time
-abbrev pub withEscape : ℕ → ℕ → AtProcessor → AtProcessor
-withEscape held idle p =
-    record {
-      «in_command_mode» = commandMode p;
-      «cmd_buf» = lineOf p;
       idle = idle;
       «plus_count» = held;
-      «carrier_up» = seen p;
-      «carrier_down_for» = downTime p;
-    }
-
--- this mark and this down time
-abbrev pub withCarrier : Bool → ℕ → AtProcessor → AtProcessor
-withCarrier mark down p =
-    record {
-      «in_command_mode» = commandMode p;
-      «cmd_buf» = lineOf p;
-      idle = p .idle;
-      «plus_count» = pluses p;
       «carrier_up» = mark;
       «carrier_down_for» = down;
     }
+
+abbrev pub withMode : Bool → AtProcessor → AtProcessor
+withMode mode p = changed mode (lineOf p) (pluses p) (p .idle) (seen p) (downTime p) p
+
+abbrev pub withLine : Line → AtProcessor → AtProcessor
+withLine line p = changed (commandMode p) line (pluses p) (p .idle) (seen p) (downTime p) p
+
+-- these pluses and this idle time
+abbrev pub withEscape : ℕ → ℕ → AtProcessor → AtProcessor
+withEscape held idle p = changed (commandMode p) (lineOf p) held idle (seen p) (downTime p) p
+
+-- this mark and this down time
+abbrev pub withCarrier : Bool → ℕ → AtProcessor → AtProcessor
+withCarrier mark down p = changed (commandMode p) (lineOf p) (pluses p) (p .idle) mark down p
 
 -- fresh: command mode
 abbrev pub fresh : AtProcessor

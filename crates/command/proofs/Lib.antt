@@ -2,3 +2,4 @@
 pub mod Mapped
 pub mod Begins
 pub mod Pushed
+pub mod Cases

@@ -11,10 +11,19 @@ use lib.Seq.{take-suc-set}
 use lib.Dec.{ltb}
 use borrow.Author.Tests.{leb-true, ltb-true, le-leb, lt-ltb}
 use Rattle.command.specs.declared.Line.{Line}
-use Rattle.command.specs.Line.{typed, soundLine, pushed, pushedIf, uppercased}
+use Rattle.command.specs.Line.{emptyLine, typed, soundLine, pushed, pushedIf, uppercased}
+
+pub sound-empty : soundLine emptyLine ≡ true
+unfolding soundLine
+sound-empty = refl
 
 module _ (l : Line) where
+  pub short : soundLine l ≡ true → l .len ≤ 80
+  unfolding soundLine
+  short s = leb-true (l .len) 80 s
+
   sound-by : (t : Bool) (b : ℕ) → ltb (l .len) 80 ≡ t → soundLine l ≡ true → soundLine (pushedIf t l b) ≡ true
+  unfolding soundLine
   sound-by true b e s = le-leb (l .len + 1) 80 (omega (arith, ltb-true (l .len) 80 e))
   sound-by false b e s = s
 
@@ -23,7 +32,7 @@ module _ (l : Line) where
   sound-pushed b s = sound-by (ltb (l .len) 80) b refl s
 
   pub sound-uppercased : soundLine (uppercased l) ≡ soundLine l
-  unfolding uppercased
+  unfolding soundLine uppercased
   sound-uppercased = refl
 
   pub joins : (b : ℕ) → length (l .bytes) ≡ 80 → l .len < 80 → typed (pushed l b) ≡ typed l ++ (b ∷ [])
@@ -31,4 +40,4 @@ module _ (l : Line) where
   joins b long room = rw (lt-ltb _ _ room, add-one) (take-suc-set (l .bytes) (l .len) b (omega arith))
 
   pub few-after : soundLine l ≡ true → length (drop 4 (typed l)) ≤ 76
-  few-after s = simp (length-drop, length-take) (omega (arith, leb-true (l .len) 80 s))
+  few-after s = simp (length-drop, length-take) (omega (arith, short s))

@@ -15,7 +15,7 @@ abbrev pub typed : Line → List ℕ
 typed l = take (l .len) (l .bytes)
 
 -- sound: line <= 80
-abbrev pub soundLine : Line → Bool
+unfoldable pub soundLine : Line → Bool
 soundLine l = leb (l .len) 80
 
 -- one byte more; a full line stays, and the byte is one that 01 declines

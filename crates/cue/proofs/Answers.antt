@@ -4,7 +4,6 @@ use Prim.Native.Nat.{ℕ, suc}
 use mathlib.Core.Path.{_≡_, refl}
 use mathlib.Core.Bool.{true}
 use lib.Dec.{lit≤}
-use lib.ListN.{replicate}
 use Rattle.math.specs.Float.{ofNat}
 use Rattle.nco.specs.Nco.{stepOf}
 use Rattle.stage.specs.declared.StageState.the-variants.{Dialling}
@@ -14,18 +13,17 @@ use Rattle.overture.specs.Iteration as overture
 use Rattle.ascii.specs.Ascii.{ascii}
 use Rattle.keys.proofs.Line.{dials-12}
 use Rattle.passage.specs.Cue.{InDigitTone}
-use Rattle.keys.specs.Keys.{allKeys}
-use Rattle.soundness.specs.Sound.{rateOk, digitsOk, stateOk, soundState}
+use Rattle.soundness.specs.Sound.{rateOk}
 use Rattle.at.specs.declared.Control.the-variants.{Dial}
-use Rattle.at.specs.Processor.{fresh, withLine}
-use Rattle.at.specs.Processor as processor
+use Rattle.at.specs.Processor.{fresh}
 use Rattle.at.proofs.Sound.{sound-fresh}
-use Rattle.session.specs.Session.{stateNumber, digitsHeld, dialling, idle}
+use Rattle.session.specs.Session.{stateNumber, digitsHeld, dialling}
 use Rattle.control.specs.Control.{controlled}
 use Rattle.set.specs.declared.Set.{Set}
 use Rattle.set.specs.Sound.{sound}
 use Rattle.set.specs.Set.{freshSet, moved}
 use Rattle.set.proofs.Soundness.{fresh-sound, control-sound}
+use Rattle.set.proofs.Cases.{ones, unsound-81}
 use Rattle.cue.specs.declared.Cued.{Cued}
 use Rattle.cue.specs.Cue.{cueRefusalNumber, cueCause}
 use Rattle.cue.proofs.cue.Reads as cue
@@ -66,6 +64,6 @@ unfolding cueCause dialling stateNumber
 position-2 = rw (sound-12, dials-12)
 
 -- 6 before 7: a line of 81 bytes on a set that is Idle
-pub unsound-and-idle : (p : ℕ) → cueRefusalNumber (cueCause (moved (freshSet 8000) (withLine (record { bytes = replicate 80 49; len = 81 }) fresh) idle) p) ≡ 6
-unfolding sound soundState stateOk digitsOk allKeys rateOk idle processor.sound cueCause stateNumber
-unsound-and-idle p = refl
+pub unsound-and-idle : (p : ℕ) → cueRefusalNumber (cueCause (ones 81) p) ≡ 6
+unfolding cueCause
+unsound-and-idle p = rw unsound-81

@@ -1,5 +1,6 @@
 // The set for C programs, under the names of include/gibbonplate.h. A set lies in memory that the caller lends: six arrays, which the
 // header has in one struct. Each function here is the set's call between a load and a store, and a declined call leaves the memory as it was.
+use memory::MARKS;
 use set::Set;
 ghost use mathlib.Core.Path.{_≡_};
 ghost use lib.ListN.{length};
@@ -18,7 +19,7 @@ pub extern "C" fn gibbonplate_new_in(
     longs: &mut [u64; 5],
     counts: &mut [u32; 4],
     reals: &mut [f64; 6],
-    marks: &mut [u8; 8],
+    marks: &mut [u8; MARKS],
     line: &mut [u8; 80],
     keys: &mut [u8; 76],
     rate: u32,
@@ -37,7 +38,7 @@ pub extern "C" fn gibbonplate_feed_in(
     longs: &mut [u64; 5],
     counts: &mut [u32; 4],
     reals: &mut [f64; 6],
-    marks: &mut [u8; 8],
+    marks: &mut [u8; MARKS],
     line: &mut [u8; 80],
     keys: &mut [u8; 76],
     byte: u8,
@@ -65,7 +66,7 @@ pub extern "C" fn gibbonplate_advance_time_in(
     longs: &mut [u64; 5],
     counts: &mut [u32; 4],
     reals: &mut [f64; 6],
-    marks: &mut [u8; 8],
+    marks: &mut [u8; MARKS],
     line: &mut [u8; 80],
     keys: &mut [u8; 76],
     ns: u64,
@@ -90,7 +91,7 @@ pub extern "C" fn gibbonplate_force_data_mode_in(
     longs: &mut [u64; 5],
     counts: &mut [u32; 4],
     reals: &mut [f64; 6],
-    marks: &mut [u8; 8],
+    marks: &mut [u8; MARKS],
     line: &mut [u8; 80],
     keys: &mut [u8; 76],
 ) -> u8
@@ -110,7 +111,7 @@ pub extern "C" fn gibbonplate_process_out_in(
     longs: &mut [u64; 5],
     counts: &mut [u32; 4],
     reals: &mut [f64; 6],
-    marks: &mut [u8; 8],
+    marks: &mut [u8; MARKS],
     line: &mut [u8; 80],
     keys: &mut [u8; 76],
     samples: &mut [f32],
@@ -131,7 +132,7 @@ pub extern "C" fn gibbonplate_ring_in(
     longs: &[u64; 5],
     counts: &[u32; 4],
     reals: &[f64; 6],
-    marks: &[u8; 8],
+    marks: &[u8; MARKS],
     line: &[u8; 80],
     keys: &[u8; 76],
     ring: &mut u8,
@@ -150,7 +151,7 @@ pub extern "C" fn gibbonplate_cue_in(
     longs: &[u64; 5],
     counts: &[u32; 4],
     reals: &[f64; 6],
-    marks: &[u8; 8],
+    marks: &[u8; MARKS],
     line: &[u8; 80],
     keys: &[u8; 76],
     position: u32,
@@ -188,7 +189,7 @@ pub extern "C" fn gibbonplate_mode_in(
     longs: &[u64; 5],
     counts: &[u32; 4],
     reals: &[f64; 6],
-    marks: &[u8; 8],
+    marks: &[u8; MARKS],
     line: &[u8; 80],
     keys: &[u8; 76],
 ) -> u8
@@ -203,7 +204,7 @@ pub extern "C" fn gibbonplate_state_in(
     longs: &[u64; 5],
     counts: &[u32; 4],
     reals: &[f64; 6],
-    marks: &[u8; 8],
+    marks: &[u8; MARKS],
     line: &[u8; 80],
     keys: &[u8; 76],
 ) -> u8
@@ -219,7 +220,7 @@ pub extern "C" fn gibbonplate_stage_in(
     longs: &[u64; 5],
     counts: &[u32; 4],
     reals: &[f64; 6],
-    marks: &[u8; 8],
+    marks: &[u8; MARKS],
     line: &[u8; 80],
     keys: &[u8; 76],
 ) -> u8
@@ -234,7 +235,7 @@ pub extern "C" fn gibbonplate_m_in(
     longs: &[u64; 5],
     counts: &[u32; 4],
     reals: &[f64; 6],
-    marks: &[u8; 8],
+    marks: &[u8; MARKS],
     line: &[u8; 80],
     keys: &[u8; 76],
 ) -> u32
@@ -249,7 +250,7 @@ pub extern "C" fn gibbonplate_rate_in(
     longs: &[u64; 5],
     counts: &[u32; 4],
     reals: &[f64; 6],
-    marks: &[u8; 8],
+    marks: &[u8; MARKS],
     line: &[u8; 80],
     keys: &[u8; 76],
 ) -> u32
@@ -264,7 +265,7 @@ pub extern "C" fn gibbonplate_digits_in(
     longs: &[u64; 5],
     counts: &[u32; 4],
     reals: &[f64; 6],
-    marks: &[u8; 8],
+    marks: &[u8; MARKS],
     line: &[u8; 80],
     keys: &[u8; 76],
     digits: &mut [u8; 76],

@@ -13,6 +13,9 @@ ghost use Rattle.set.specs.Sound.{sound};
 ghost use Rattle.set.specs.Set.{freshSet};
 ghost use Rattle.gibbonplate.specs.Memory.{memory, flag, stored, holdsSet, plainIn, processorIn, setIn, loaded, kept};
 
+// How many marks a set has.
+pub const MARKS: usize = 8;
+
 fn flag(on: bool) -> u8
     ensures { λ r. ⌜ r ≡ flag on ⌝ }
 {
@@ -22,7 +25,7 @@ fn flag(on: bool) -> u8
     0
 }
 
-fn holds_set(marks: &[u8; 8]) -> bool
+fn holds_set(marks: &[u8; MARKS]) -> bool
     ensures { λ r. ⌜ r ≡ holdsSet (now (marks .entry)) ⌝ }
 {
     (marks[0] <= 1)
@@ -42,7 +45,12 @@ fn no_set() -> Set
     }
 }
 
-fn plain_in(longs: &[u64; 5], counts: &[u32; 4], reals: &[f64; 6], marks: &[u8; 8]) -> PlainStage
+fn plain_in(
+    longs: &[u64; 5],
+    counts: &[u32; 4],
+    reals: &[f64; 6],
+    marks: &[u8; MARKS],
+) -> PlainStage
     ensures { λ r. ⌜ r ≡ plainIn (now (longs .entry)) (now (counts .entry)) (now (reals .entry)) (now (marks .entry)) ⌝ }
 {
     PlainStage {
@@ -65,7 +73,7 @@ fn plain_in(longs: &[u64; 5], counts: &[u32; 4], reals: &[f64; 6], marks: &[u8; 
     }
 }
 
-fn processor_in(longs: &[u64; 5], marks: &[u8; 8], line: &[u8; 80]) -> AtProcessor
+fn processor_in(longs: &[u64; 5], marks: &[u8; MARKS], line: &[u8; 80]) -> AtProcessor
     ensures { λ r. ⌜ r ≡ processorIn (now (longs .entry)) (now (marks .entry)) (now (line .entry)) ⌝ }
 {
     let bytes = *line;
@@ -86,7 +94,7 @@ fn set_in(
     longs: &[u64; 5],
     counts: &[u32; 4],
     reals: &[f64; 6],
-    marks: &[u8; 8],
+    marks: &[u8; MARKS],
     line: &[u8; 80],
     keys: &[u8; 76],
 ) -> Set
@@ -117,7 +125,7 @@ pub fn load(
     longs: &[u64; 5],
     counts: &[u32; 4],
     reals: &[f64; 6],
-    marks: &[u8; 8],
+    marks: &[u8; MARKS],
     line: &[u8; 80],
     keys: &[u8; 76],
 ) -> Set
@@ -136,7 +144,7 @@ pub fn store(
     longs: &mut [u64; 5],
     counts: &mut [u32; 4],
     reals: &mut [f64; 6],
-    marks: &mut [u8; 8],
+    marks: &mut [u8; MARKS],
     line: &mut [u8; 80],
     keys: &mut [u8; 76],
 )
@@ -182,7 +190,7 @@ pub fn keep(
     longs: &mut [u64; 5],
     counts: &mut [u32; 4],
     reals: &mut [f64; 6],
-    marks: &mut [u8; 8],
+    marks: &mut [u8; MARKS],
     line: &mut [u8; 80],
     keys: &mut [u8; 76],
 )

@@ -2,7 +2,9 @@
 use Prim.Native.Nat.{ℕ}
 use mathlib.Core.Path.{_≡_, refl}
 use mathlib.Core.List.{[]}
-use lib.ListN.{replicate}
+use mathlib.Core.Bool.{false}
+use Rattle.command.proofs.Cases as line
+use Rattle.command.specs.Line.{soundLine}
 use Rattle.keys.specs.Keys.{held, allKeys}
 use Rattle.stage.specs.declared.StageState.the-variants as at
 use Rattle.soundness.specs.Sound.{rateOk, digitsOk, stateOk, soundState}
@@ -16,8 +18,8 @@ use Rattle.set.specs.Refusals.{refusalNumber, accepted}
 use Rattle.set.specs.Set.{freshSet, moved, creationCause, made, typingCause, lapseCause, forcedCause, fillCause, ringCause}
 
 -- a fresh set with a line of n ones
-abbrev ones : ℕ → Set
-ones n = moved (freshSet 8000) (processor.withLine (record { bytes = replicate 80 49; len = n }) processor.fresh) idle
+abbrev pub ones : ℕ → Set
+ones n = moved (freshSet 8000) (processor.withLine (line.ones n) processor.fresh) idle
 
 -- and one whose line is up
 abbrev up : Set
@@ -29,6 +31,10 @@ unfolding made creationCause rateOk accepted
 rate-7999 = (refl, refl)
 
 -- 6, line length 81, whatever the call
+pub unsound-81 : sound (ones 81) ≡ false
+unfolding sound soundState stateOk digitsOk allKeys rateOk idle processor.sound soundLine
+unsound-81 = refl
+
 pub record Declined6 (s : Set) : Type 0 where
   pub typing : (byte n : ℕ) → refusalNumber (typingCause s byte n) ≡ 6
   pub time : refusalNumber (lapseCause s) ≡ 6
@@ -36,33 +42,36 @@ pub record Declined6 (s : Set) : Type 0 where
   pub filling : (b : ℕ) → refusalNumber (fillCause s b) ≡ 6
   pub ring : refusalNumber (ringCause s) ≡ 6
 
+unsound-declined : (s : Set) → sound s ≡ false → Declined6 s
+unfolding typingCause lapseCause forcedCause fillCause ringCause
+unsound-declined s e = record { typing = λ byte n. rw e; time = rw e; forcing = rw e; filling = λ b. rw e; ring = rw e }
+
 pub line-81 : Declined6 (ones 81)
-unfolding sound soundState stateOk digitsOk allKeys rateOk idle processor.sound typingCause lapseCause forcedCause fillCause ringCause
-line-81 = record { typing = λ byte n. refl; time = refl; forcing = refl; filling = λ b. refl; ring = refl }
+line-81 = unsound-declined (ones 81) unsound-81
 
 -- 2, 3 bytes; 4, the 81st "1"
 pub outbox-3 : refusalNumber (typingCause (freshSet 8000) 49 3) ≡ 2
-unfolding sound soundState stateOk digitsOk allKeys rateOk idle processor.sound lineFull typingCause
+unfolding sound soundState stateOk digitsOk allKeys rateOk idle processor.sound soundLine lineFull typingCause
 outbox-3 = refl
 
 pub one-81 : refusalNumber (typingCause (ones 80) 49 4) ≡ 4
-unfolding sound soundState stateOk digitsOk allKeys rateOk idle processor.sound lineFull typingCause
+unfolding sound soundState stateOk digitsOk allKeys rateOk idle processor.sound soundLine lineFull typingCause
 one-81 = refl
 
 -- 3, 65,537; 5, length 1 in Connected
 pub samples-65537 : refusalNumber (fillCause (freshSet 8000) 65537) ≡ 3
-unfolding sound soundState stateOk digitsOk allKeys rateOk idle processor.sound fillCause
+unfolding sound soundState stateOk digitsOk allKeys rateOk idle processor.sound soundLine fillCause
 samples-65537 = refl
 
 pub connected-1 : refusalNumber (fillCause up 1) ≡ 5
-unfolding sound soundState stateOk digitsOk allKeys rateOk processor.sound stateNumber fillCause
+unfolding sound soundState stateOk digitsOk allKeys rateOk processor.sound soundLine stateNumber fillCause
 connected-1 = refl
 
 -- with two causes the first in the table's order: 2 before 4, and 3 before 5
 pub outbox-3-line-80 : refusalNumber (typingCause (ones 80) 49 3) ≡ 2
-unfolding sound soundState stateOk digitsOk allKeys rateOk idle processor.sound lineFull typingCause
+unfolding sound soundState stateOk digitsOk allKeys rateOk idle processor.sound soundLine lineFull typingCause
 outbox-3-line-80 = refl
 
 pub connected-65537 : refusalNumber (fillCause up 65537) ≡ 3
-unfolding sound soundState stateOk digitsOk allKeys rateOk processor.sound stateNumber fillCause
+unfolding sound soundState stateOk digitsOk allKeys rateOk processor.sound soundLine stateNumber fillCause
 connected-65537 = refl
