@@ -38,23 +38,24 @@
 extern "C" {
 #endif
 
+#define GIBBONPLATE_MARKS 9
+
 /* A set. Its contents are the library's business. */
 typedef struct gibbonplate_set {
     uint64_t longs[5];
     uint32_t counts[4];
     double reals[6];
-    uint8_t marks[8];
+    uint8_t marks[GIBBONPLATE_MARKS];
     uint8_t line[80];
     uint8_t keys[76];
 } gibbonplate_set;
 
-/* Why a call was declined. */
+/* Why a call was declined. Number 4 is given no more. */
 enum gibbonplate_refusal {
     GIBBONPLATE_ACCEPTED = 0,
     GIBBONPLATE_BAD_RATE = 1,      /* creation: a rate outside 8,000 to 192,000 */
     GIBBONPLATE_SHORT_OUTBOX = 2,  /* a typed byte: an outbox under 4 bytes */
     GIBBONPLATE_LONG_FILL = 3,     /* a fill of over 65,536 samples */
-    GIBBONPLATE_LINE_FULL = 4,     /* a typed byte: the line has 80 bytes, and this is neither CR nor LF */
     GIBBONPLATE_LINE_UP = 5,       /* a fill in state 3 */
     GIBBONPLATE_UNSOUND = 6,       /* the memory holds no set that calls can reach */
     GIBBONPLATE_BAD_POSITION = 7   /* a cue: nothing is being dialled, or it has no such digit */
@@ -86,10 +87,11 @@ typedef struct gibbonplate_answer {
  * The library's own functions take the set as its six arrays, since it knows no structs of C's. Call
  * the functions below these; from a language that cannot include this header, call these.
  */
-#define GIBBONPLATE_ARRAYS \
-    uint64_t longs[5], uint32_t counts[4], double reals[6], uint8_t marks[8], uint8_t line[80], uint8_t keys[76]
+#define GIBBONPLATE_ARRAYS                                                                                        \
+    uint64_t longs[5], uint32_t counts[4], double reals[6], uint8_t marks[GIBBONPLATE_MARKS], uint8_t line[80],  \
+        uint8_t keys[76]
 #define GIBBONPLATE_CONST_ARRAYS                                                                                 \
-    const uint64_t longs[5], const uint32_t counts[4], const double reals[6], const uint8_t marks[8],           \
+    const uint64_t longs[5], const uint32_t counts[4], const double reals[6], const uint8_t marks[GIBBONPLATE_MARKS], \
         const uint8_t line[80], const uint8_t keys[76]
 #define GIBBONPLATE_OF(set) (set)->longs, (set)->counts, (set)->reals, (set)->marks, (set)->line, (set)->keys
 
@@ -120,7 +122,8 @@ static inline uint8_t gibbonplate_new(gibbonplate_set *set, uint32_t rate)
 /*
  * A byte is typed. carrier says whether the line hears the other end; it is taken as false in state 0.
  * What is to be sent is put at the front of the outbox, the rest of which stays; answer gets the reply
- * and how many bytes were put there. Declines with 6, 2 and 4, in this order; answer is then all 0.
+ * and how many bytes were put there. A line that gets more than 80 bytes is no command: its CR gives ERROR.
+ * Declines with 6 and 2, in this order; answer is then all 0.
  */
 static inline uint8_t gibbonplate_feed(gibbonplate_set *set, uint8_t byte, bool carrier, uint8_t *outbox, size_t len,
                                        gibbonplate_answer *answer)

@@ -1,4 +1,4 @@
-"""Document 01 in plain Python, written from the paper and not from the Rust.
+"""Document 01 in plain Python, and what has landed of 02, written from the papers and not from the Rust.
 
 Python's floats are binary64 and each operation rounds once, so lengths and samples come
 out exactly. The generator steers by it, the counter of what a script reached reads lines
@@ -264,7 +264,7 @@ class Set:
     def __init__(self, rate=LOWEST_RATE):
         self.rate = rate
         self.state, self.digits, self.m, self.shown = IDLE, b"", 0, 0
-        self.command_mode, self.line = True, b""
+        self.command_mode, self.line, self.over = True, b"", False
         self.pluses, self.idle = 0, 0
         self.seen, self.down = False, 0
         self.sent = b""
@@ -281,10 +281,13 @@ class Set:
         if byte == LF:
             return 0, ()
         if byte == CR:
-            line, self.line = self.line, b""
+            line, over, self.line, self.over = self.line, self.over, b"", False
+            if over:
+                return 0, (ERROR,)
             return 0, self.execute(line.upper(), carrier and self.state != IDLE) if line else ()
         if len(self.line) == LINE_LIMIT:
-            return 4, ()
+            self.over = True
+            return 0, ()
         self.line += bytes([byte])
         return 0, ()
 

@@ -115,14 +115,14 @@ def note_typed(reached, before, numbers, after, row):
         reached[f"outbox of {numbers[2]}"] += 1
     elif not before.command_mode:
         note_data_byte(reached, before, byte, after)
-    elif row[0] == "4":
-        reached["byte after a full line"] += 1
     elif byte == LF:
         reached["LF inside a line" if before.line else "LF before a line"] += 1
         if len(before.line) == LINE_LIMIT:
-            reached["LF after a full line"] += 1
+            reached["LF after a line that ran over" if before.over else "LF after a full line"] += 1
     elif byte == CR:
         note_command(reached, before, carrier, after, row)
+    elif len(before.line) == LINE_LIMIT:
+        reached["byte after a line that ran over" if before.over else "byte after a full line"] += 1
 
 
 def note_data_byte(reached, before, byte, after):
@@ -151,6 +151,9 @@ def note_command(reached, before, carrier, after, row):
         reached["CR on an empty line"] += 1
         return
     line = before.line.upper()
+    if before.over:
+        reached["dial line that ran over" if line.startswith(b"ATDT") else "other line that ran over"] += 1
+        return
     reached["lower case line"] += line != before.line
     if len(line) >= LINE_LIMIT - 1:
         reached[f"line of {len(line)} bytes"] += 1
@@ -215,6 +218,7 @@ def note_lapse(reached, before, numbers, after, row):
             reached["carrier lost at 700 ms"] += down == CARRIER_HOLD
             reached["carrier lost with pluses held"] += before.pluses > 0
             reached["carrier lost with part of a line"] += len(before.line) > 0
+            reached["carrier lost with a line that ran over"] += before.over
             reached["down time at its largest"] += down > LARGEST_U64
         else:
             reached["carrier kept at 699,999,999 ns"] += down == CARRIER_HOLD - 1
@@ -262,6 +266,7 @@ def note_overture(reached, before, length, after):
 def note_forced(reached, before, numbers, after, row):
     reached["data mode forced"] += 1
     reached["data mode forced inside a line"] += before.command_mode and len(before.line) > 0
+    reached["data mode forced with a line that ran over"] += before.command_mode and before.over
     reached["data mode forced with pluses held"] += before.pluses > 0
 
 
@@ -272,7 +277,7 @@ NOTES = {"R": note_create, "T": note_typed, "W": note_lapse, "F": note_fill, "D"
 
 def must(extended):
     """The names that have to be counted; those of --ext only where it is on."""
-    names = [f"refusal {n}" for n in (0, 1, 4, 5)]
+    names = [f"refusal {n}" for n in (0, 1, 5)]
     names += ["mode C", "mode D", "other line"]
     names += [f"state {n}" for n in range(4)] + [f"stage {n}" for n in range(10)] + [f"ring {n}" for n in range(3)]
     names += [f"codes {c} on T" for c in ("0,0", "1,0", "2,0", "4,0", "5,1", "1,3")]
@@ -282,6 +287,8 @@ def must(extended):
     names += ["AT", "ATZ", "ATI", "ATA", "ATH", "ATH0", "ATO", "ATO0", "ATDP1", "AT DT1", "ATX", "line without AT"]
     names += ["CR on an empty line", "LF inside a line", "LF before a line", "lower case line"]
     names += ["line of 79 bytes", "line of 80 bytes", "byte after a full line", "LF after a full line"]
+    names += ["dial line that ran over", "other line that ran over", "byte after a line that ran over"]
+    names += ["LF after a line that ran over", "carrier lost with a line that ran over", "data mode forced with a line that ran over"]
     for state in STATE_NAMES:
         names += [f"{what} in {state}" for what in ("answer", "hang-up", "dial", "byte sent", "empty fill", "escape")]
         names += [f"{ato} ERROR in {state}" for ato in ("ATO", "ATO0")]

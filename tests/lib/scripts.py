@@ -324,16 +324,21 @@ class Script:
             self.type_text(line[cut:] + b"\r")
 
     def scene_long_line(self):
-        """79, 80 or 81 bytes, and CR or LF at a full line."""
+        """79, 80, 81 bytes or many more, and CR or LF at a full line, over forced data or a lost carrier."""
+        if self.chance(0.3):
+            self.to_call()
+            self.lapse(1, True)
         self.to_command_mode()
         head = self.random.choice((b"ATDT", b"atdt", b"ATI", b"", b"AT"))
-        room = self.random.choice((79, 80, 80, 81, 83)) - len(self.set.line) - len(head)
+        room = self.random.choice((79, 80, 80, 81, 82, 83, 120)) - len(self.set.line) - len(head)
         self.type_text(head + bytes(self.random.choice(b"1234567890#*x") for _ in range(max(room, 0))))
         if self.chance(0.3):
             self.type_byte(LF)
         if self.chance(0.3):
             self.put(b"D")
             self.to_command_mode()
+        if self.set.seen and self.chance(0.7):
+            self.lapse_in_pieces(CARRIER_HOLD, False)
         if self.chance(0.9):
             self.type_byte(CR)
 
@@ -401,7 +406,7 @@ class Script:
     SCENES = (
         (scene_fresh, 6), (scene_command, 12), (scene_empty_line, 2), (scene_dial, 10), (scene_fill, 10),
         (scene_stage_end, 8), (scene_walk, 3), (scene_line_up, 3), (scene_inner_edge, 5), (scene_escape, 10),
-        (scene_carrier, 8), (scene_resume, 5), (scene_hang_up, 4), (scene_huge_lapse, 2), (scene_forced, 4), (scene_long_line, 2), (scene_other_lines, 4), (scene_noise, 5),
+        (scene_carrier, 8), (scene_resume, 5), (scene_hang_up, 4), (scene_huge_lapse, 2), (scene_forced, 4), (scene_long_line, 3), (scene_other_lines, 4), (scene_noise, 5),
         (scene_extended, 8), (scene_in_connected, 3), (scene_in_answering, 3),
     )
 

@@ -1,5 +1,5 @@
 //! What 01's set adds to the Rust: the calls it declines, the count m, and the numbers
-//! for states, stages and replies.
+//! for states, stages and replies. And 02's E1: a line that ran over is not dialled.
 
 use crate::at::{AtProcessor, Response};
 use crate::overture::Stage;
@@ -38,8 +38,8 @@ impl Answer {
 pub struct Set {
     at: AtProcessor,
     pub session: Session,
-    /// How many bytes at.rs holds of an unfinished line.
-    line: usize,
+    /// The unfinished line. at.rs has no end to its lines, so a line is handed to it with its CR.
+    line: Vec<u8>,
     m: u64,
 }
 
@@ -53,7 +53,7 @@ impl Set {
     }
 
     fn fresh(rate: u32) -> Self {
-        Set { at: AtProcessor::new(), session: Session::new(rate), line: 0, m: 0 }
+        Set { at: AtProcessor::new(), session: Session::new(rate), line: Vec::new(), m: 0 }
     }
 
     pub fn feed(&mut self, byte: u8, carrier: bool, outbox: usize) -> Answer {
@@ -61,11 +61,13 @@ impl Set {
         if outbox < OUTBOX_NEEDED {
             return Answer::declined(2);
         }
-        let ends_or_drops = byte == b'\r' || byte == b'\n';
-        if self.at.in_command_mode() && self.line == LINE_LIMIT && !ends_or_drops {
-            return Answer::declined(4);
+        if self.at.in_command_mode() && byte != b'\r' && byte != b'\n' {
+            self.line.push(byte);
+            return Answer::default();
         }
-        self.count_line(byte);
+        if self.at.in_command_mode() && byte == b'\r' {
+            self.hand_over_line();
+        }
         let reply = self.at.feed(byte, &mut self.session);
         self.restart_count_if_moved();
         Answer::replied(reply)
@@ -126,15 +128,16 @@ impl Set {
         self.session.ring_number().unwrap_or(0)
     }
 
-    /// at.rs keeps its line to itself, so its length is counted beside it.
-    fn count_line(&mut self, byte: u8) {
-        if !self.at.in_command_mode() {
-            return;
+    /// Types the line into at.rs. Any other line of more than 80 bytes is no command there
+    /// either; a dial line of more is one that 02 does not dial, and is typed as one that is none.
+    fn hand_over_line(&mut self) {
+        let mut line = core::mem::take(&mut self.line);
+        let dials = line.len() >= 4 && line[..4].eq_ignore_ascii_case(b"ATDT");
+        if dials && line.len() > LINE_LIMIT {
+            line = b"ran over".to_vec();
         }
-        match byte {
-            b'\n' => {}
-            b'\r' => self.line = 0,
-            _ => self.line += 1,
+        for byte in line {
+            self.at.feed(byte, &mut self.session);
         }
     }
 

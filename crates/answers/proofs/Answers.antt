@@ -14,6 +14,12 @@ use Rattle.nco.specs.Lent.{lentSample, lentNco}
 use Rattle.set.specs.declared.Set.{Set}
 use Rattle.set.proofs.Answers.{new-answers, feed-answers, advance-time-answers, force-data-mode-answers, process-out-answers, ring-number-answers}
 use Rattle.cue.proofs.Answers.{cue-answers}
+use Rattle.set.specs.declared.Refusal.{Refusal}
+use Rattle.set.specs.declared.Refusal.the-variants.{Accepted, Rate, Outbox, Length, Connected, Unsound}
+use Rattle.set.specs.Refusals.{refusalNumber}
+use Rattle.cue.specs.declared.Refusal as cueRefusal
+use Rattle.cue.specs.declared.Refusal.the-variants as cue
+use Rattle.cue.specs.Cue.{cueRefusalNumber}
 use Rattle.reply.proofs.write_reply.Reads as write-reply
 use Rattle.answers.specs.Answers.{Answers}
 
@@ -35,6 +41,19 @@ writer-answers code κs out left n d =
     let wrote : left ≡ put (textOf code) (now out) = d .1 in
     (told, λ nothing. wrote ∙ nothing-written (textOf code) (now out) (sym told ∙ nothing))
 
+never-4 : (refusal : Refusal) → refusalNumber refusal ≡ 4 → ⊥
+never-4 Accepted e = omega arith
+never-4 Rate e = omega arith
+never-4 Outbox e = omega arith
+never-4 Length e = omega arith
+never-4 Connected e = omega arith
+never-4 Unsound e = omega arith
+
+cue-never-4 : (refusal : cueRefusal.Refusal) → cueRefusalNumber refusal ≡ 4 → ⊥
+cue-never-4 cue.Accepted e = omega arith
+cue-never-4 cue.Unsound e = omega arith
+cue-never-4 cue.Position e = omega arith
+
 pub answers : (s : Set) → Answers s
 unfolding lentSample lentNco
 answers s =
@@ -46,6 +65,7 @@ answers s =
       filling = λ κs out. (tt, process-out-answers s κs out);
       ring = (tt, ring-number-answers s);
       cue = λ p. (tt, cue-answers s p);
+      never4 = (never-4, cue-never-4);
       writer = λ code κs out. (tt, writer-answers code κs out);
       oscillator = λ nco outside. (rw outside, rw outside);
     }

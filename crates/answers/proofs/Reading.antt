@@ -27,6 +27,7 @@ use Rattle.set.specs.Refusals.{refusalNumber, Declined}
 use Rattle.set.specs.Set.{freshSet, creationCause, typingCause, lapseCause, forcedCause, fillCause, ringCause}
 use Rattle.set.specs.Event.{typedEvent, lapsedEvent, forcedEvent, filledEvent, Event, Unchanged, ByCause}
 use Rattle.cue.specs.declared.Cued.{Cued}
+use Rattle.cue.specs.declared.Refusal as cueRefusal
 use Rattle.cue.specs.Cue.{cueRefusalNumber, cueCause}
 use Rattle.set.proofs.Set.new.Reads as new
 use Rattle.set.proofs.Set.feed.Reads as feed
@@ -78,7 +79,7 @@ module _ (s : Set) (r : Bool) (d : is-sound.Learnt tt (s, tt) r (s, tt)) where
   pub typing-answers : (byte : ℕ) (carrier : Bool) (κs : Lfts 1) (out : RefT (List ℕ))
       → feed.Asked κs (s, (byte, (carrier, (out, tt))))
       × ((left : List ℕ) (answer : Typed) → feed.Learnt κs (s, (byte, (carrier, (out, tt)))) answer (s, (byte, (carrier, (at-last out left, tt))))
-      → ByCause s (typingCause s byte (length (now out))) (typedEvent byte carrier (now out) left answer))
+      → ByCause s (typingCause s (length (now out))) (typedEvent byte carrier (now out) left answer))
   typing-answers = told .typing
 
   pub time-answers : (ns : ℕ) (carrier : Bool)
@@ -109,6 +110,9 @@ module _ (s : Set) (r : Bool) (d : is-sound.Learnt tt (s, tt) r (s, tt)) where
       × ((answer : Cued) → cue.Learnt tt (s, (p, tt)) answer (s, (p, tt))
       → (answer .refusal ≡ cueCause s p) × ((cueRefusalNumber (answer .refusal) ≡ 0 → ⊥) → answer .sample ≡ 0))
   cue-answers = told .cue
+
+  pub never-4 : ((refusal : Refusal) → refusalNumber refusal ≡ 4 → ⊥) × ((refusal : cueRefusal.Refusal) → cueRefusalNumber refusal ≡ 4 → ⊥)
+  never-4 = told .never4
 
   pub writer-answers : (code : ℕ) (κs : Lfts 1) (out : RefT (List ℕ))
       → write-reply.Asked κs (code, (out, tt))

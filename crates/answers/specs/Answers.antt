@@ -22,10 +22,12 @@ use Rattle.set.specs.declared.Lapsed.{Lapsed}
 use Rattle.set.specs.declared.Forced.{Forced}
 use Rattle.set.specs.declared.Filled.{Filled}
 use Rattle.set.specs.declared.Rung.{Rung}
-use Rattle.set.specs.Refusals.{Declined}
+use Rattle.set.specs.declared.Refusal.{Refusal}
+use Rattle.set.specs.Refusals.{refusalNumber, Declined}
 use Rattle.set.specs.Set.{freshSet, creationCause, typingCause, lapseCause, forcedCause, fillCause, ringCause}
 use Rattle.set.specs.Event.{typedEvent, lapsedEvent, forcedEvent, filledEvent, ByCause}
 use Rattle.cue.specs.declared.Cued.{Cued}
+use Rattle.cue.specs.declared.Refusal as cueRefusal
 use Rattle.cue.specs.Cue.{cueRefusalNumber, cueCause}
 use Rattle.set.proofs.Set.new.Reads as new
 use Rattle.set.proofs.Set.feed.Reads as feed
@@ -45,7 +47,7 @@ pub record Answers (s : Set) : Type 0 where
   pub typing : (byte : ℕ) (carrier : Bool) (κs : Lfts 1) (out : RefT (List ℕ))
       → feed.Asked κs (s, (byte, (carrier, (out, tt))))
       × ((left : List ℕ) (answer : Typed) → feed.Learnt κs (s, (byte, (carrier, (out, tt)))) answer (s, (byte, (carrier, (at-last out left, tt))))
-      → ByCause s (typingCause s byte (length (now out))) (typedEvent byte carrier (now out) left answer))
+      → ByCause s (typingCause s (length (now out))) (typedEvent byte carrier (now out) left answer))
   pub time : (ns : ℕ) (carrier : Bool)
       → advance-time.Asked tt (s, (ns, (carrier, tt)))
       × ((answer : Lapsed) → advance-time.Learnt tt (s, (ns, (carrier, tt))) answer (s, (ns, (carrier, tt)))
@@ -66,6 +68,8 @@ pub record Answers (s : Set) : Type 0 where
       → cue.Asked tt (s, (p, tt))
       × ((answer : Cued) → cue.Learnt tt (s, (p, tt)) answer (s, (p, tt))
       → (answer .refusal ≡ cueCause s p) × ((cueRefusalNumber (answer .refusal) ≡ 0 → ⊥) → answer .sample ≡ 0))
+  -- 02, E1: number 4 never occurs: no refusal has it, so that no call on any set answers it
+  pub never4 : ((refusal : Refusal) → refusalNumber refusal ≡ 4 → ⊥) × ((refusal : cueRefusal.Refusal) → cueRefusalNumber refusal ≡ 4 → ⊥)
   -- the writer of replies: where it writes nothing the buffer keeps its contents
   pub writer : (code : ℕ) (κs : Lfts 1) (out : RefT (List ℕ))
       → write-reply.Asked κs (code, (out, tt))

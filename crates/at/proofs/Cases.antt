@@ -10,13 +10,13 @@ use Rattle.ascii.specs.Upper.{upper}
 use Rattle.reply.specs.declared.Code.the-variants.{NoCarrier, Error}
 use Rattle.reply.specs.declared.Reply.{Reply}
 use Rattle.reply.specs.declared.Reply.the-variants.{None, One}
-use Rattle.command.specs.Line.{soundLine, pushed, uppercased}
-use Rattle.command.proofs.Cases.{ones}
+use Rattle.command.specs.Line.{emptyLine, soundLine, pushed, uppercased}
+use Rattle.command.proofs.Cases.{ones, marked}
 use Rattle.command.specs.Command.{begins, is, commandOf}
 use Rattle.at.specs.declared.AtProcessor.{AtProcessor}
 use Rattle.at.specs.declared.Control.the-variants.{Dial}
 use Rattle.at.specs.declared.Fed.{Fed}
-use Rattle.at.specs.Processor.{fresh, pluses, sound, online, withLine, withEscape, withCarrier, added}
+use Rattle.at.specs.Processor.{fresh, lineOf, pluses, sound, online, withLine, withEscape, withCarrier, added}
 use Rattle.at.specs.Command.{executed}
 use Rattle.at.specs.Escape.{withheld, released, dataByte, escaped, waited}
 use Rattle.at.specs.Carrier.{polled, downFor}
@@ -51,6 +51,15 @@ atdp1 = refl
 pub at-dt1 : answerTo "AT DT1" .reply ≡ One Error
 unfolding answerTo
 at-dt1 = refl
+
+-- 02, E1: ATDT and 76 digits are dialled, and with one more CR gives ERROR and empties the line
+pub atdt-76 : (answerTo "ATDT1111111111111111111111111111111111111111111111111111111111111111111111111111" .control ≡ Dial)
+unfolding answerTo
+atdt-76 = refl
+
+pub atdt-77 : (answerTo "ATDT11111111111111111111111111111111111111111111111111111111111111111111111111111" .reply ≡ One Error) × (lineOf (answerTo "ATDT11111111111111111111111111111111111111111111111111111111111111111111111111111" .processor) ≡ emptyLine)
+unfolding answerTo
+atdt-77 = (refl, refl)
 
 -- a lapse without a carrier, and the same followed by a plus
 pub after : ℕ → AtProcessor → AtProcessor
@@ -95,6 +104,11 @@ down = (refl, refl)
 pub sound-line : (sound (withLine (ones 80) fresh) ≡ true) × (sound (withLine (ones 81) fresh) ≡ false)
 unfolding sound soundLine
 sound-line = (refl, refl)
+
+-- 02, E1: a mark on a line shorter than 80 is unsound
+pub sound-mark : (sound (withLine (marked 80) fresh) ≡ true) × (sound (withLine (marked 79) fresh) ≡ false)
+unfolding sound soundLine
+sound-mark = (refl, refl)
 
 pub sound-pluses : (sound (withEscape 3 0 fresh) ≡ true) × (sound (withEscape 4 0 fresh) ≡ false)
 unfolding sound soundLine

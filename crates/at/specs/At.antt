@@ -1,8 +1,8 @@
--- 01, "The AT processor": a typed byte, a lapse of time, forced data mode.
+-- 01, "The AT processor": a typed byte, a lapse of time, forced data mode. 02, E1: a line that ran over is no command, and CR empties it.
 use Prim.Native.Nat.{ℕ}
 use Prim.Native.Char.{code}
 use mathlib.Core.List.{List, []}
-use mathlib.Core.Bool.{Bool, true, false, _&&_, not}
+use mathlib.Core.Bool.{Bool, true, false}
 use lib.ListN.{drop}
 use lib.Dec.{eqb}
 use Rattle.command.specs.Line.{emptyLine, typed, pushed, uppercased}
@@ -25,7 +25,7 @@ endedIf false p carrier =
 unfoldable pub ended : AtProcessor → Bool → Fed
 ended p carrier = endedIf (eqb (lineOf p .len) 0) p carrier
 
--- LF is dropped; CR ends the line; any other byte joins it
+-- LF is dropped; CR ends the line; any other byte joins it, or runs over
 abbrev pub commandByteIf : Bool → Bool → AtProcessor → ℕ → Bool → Fed
 commandByteIf true cr p byte carrier = quiet p
 commandByteIf false true p byte carrier = ended p carrier
@@ -61,7 +61,3 @@ lapse p ns carrier = polled (waited p ns) ns carrier
 -- forced data mode is online; an unfinished line stays
 unfoldable pub forcedData : AtProcessor → AtProcessor
 forcedData p = online p
-
--- declined with 4: command mode, line 80 long, byte not CR or LF
-unfoldable pub lineFull : AtProcessor → ℕ → Bool
-lineFull p byte = commandMode p && (eqb (lineOf p .len) 80 && (not (eqb byte (code "\r")) && not (eqb byte (code "\n"))))

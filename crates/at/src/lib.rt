@@ -15,7 +15,7 @@ ghost use Rattle.at.specs.Answer.{outcome, quiet};
 ghost use Rattle.at.specs.Command.{executed};
 ghost use Rattle.at.specs.Escape.{withheld, plusesThen, released, dataByte, escaped, waited};
 ghost use Rattle.at.specs.Carrier.{downFor, polled};
-ghost use Rattle.at.specs.At.{lineFull, ended, commandByte, typedByte, sent, lapse, forcedData};
+ghost use Rattle.at.specs.At.{ended, commandByte, typedByte, sent, lapse, forcedData};
 
 // 1 s: the silence before and after an escape, and the longest pause inside one.
 const GUARD_TIME: u64 = 1_000_000_000;
@@ -97,13 +97,6 @@ impl AtProcessor {
     {
         let line = self.cmd_buf;
         line.sound() & ((self.plus_count <= 3) & (self.carrier_down_for < DCD_HOLD_TIME))
-    }
-
-    // Whether 01 declines the byte with number 4.
-    pub fn line_full(self, byte: u8) -> bool
-        ensures { λ r. ⌜ r ≡ lineFull self byte ⌝ }
-    {
-        self.in_command_mode & ((self.cmd_buf.len == 80) & ((byte != b'\r') & (byte != b'\n')))
     }
 
     pub fn force_data_mode(self) -> Self

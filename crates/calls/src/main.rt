@@ -56,9 +56,20 @@ fn declined() {
     tried::typed(b"outbox of 3", sets::fresh(8000), b'A', 3);
     tried::typed(b"outbox of 4", sets::fresh(8000), b'A', 4);
     tried::typed(b"four pluses", sets::pluses(3), b'+', 8);
-    tried::typed(b"line of 80", sets::line(80), b'1', 8);
-    tried::typed(b"line of 79", sets::line(79), b'1', 8);
-    tried::typed(b"line of 80 and an outbox of 3", sets::line(80), b'1', 3);
+    tried::typed(b"line of 80", sets::line(80, false), b'1', 8);
+    tried::typed(
+        b"line of 80 and an outbox of 3",
+        sets::line(80, false),
+        b'1',
+        3,
+    );
+    tried::typed(b"line that ran over", sets::line(80, true), b'1', 8);
+    tried::typed(
+        b"line that ran over, and CR",
+        sets::line(80, true),
+        b'\r',
+        8,
+    );
     tried::fill_long(sets::dialled(8000));
     tried::calls(b"Connected", sets::connected());
 }

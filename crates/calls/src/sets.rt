@@ -42,11 +42,12 @@ pub fn rate(rate: u32) -> Set {
     Set { rate, ..set }
 }
 
-pub fn line(len: usize) -> Set {
+pub fn line(len: usize, ran_over: bool) -> Set {
     let processor = AtProcessor::new();
     let cmd_buf = Line {
         bytes: [b'1'; 80],
         len,
+        ran_over,
     };
     with_processor(AtProcessor {
         cmd_buf,

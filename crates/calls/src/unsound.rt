@@ -8,7 +8,9 @@ pub fn processors() {
     tried::calls(b"rate 8000", sets::rate(8000));
     tried::calls(b"rate 7999", sets::rate(7999));
     tried::calls(b"rate 192001", sets::rate(192001));
-    tried::calls(b"line of 81", sets::line(81));
+    tried::calls(b"line of 81", sets::line(81, false));
+    tried::calls(b"line of 80 that ran over", sets::line(80, true));
+    tried::calls(b"line of 79 that ran over", sets::line(79, true));
     tried::calls(b"4 pluses", sets::pluses(4));
     tried::calls(b"down for 699999999 ns", sets::down_for(699999999));
     tried::calls(b"down for 700000000 ns", sets::down_for(700000000));

@@ -21,7 +21,7 @@ use Rattle.keys.specs.Keys.{digitsOf, keysOf, isKey, keyRow}
 use Rattle.command.specs.Line.{pushed, uppercased}
 use Rattle.command.specs.Command.{begins, is, commandOf}
 use Rattle.at.specs.Command.{executed}
-use Rattle.at.specs.At.{ended, commandByte, typedByte, lineFull}
+use Rattle.at.specs.At.{ended, commandByte, typedByte}
 use Rattle.session.specs.declared.SessionState.{SessionState}
 use Rattle.session.specs.declared.SessionState.the-variants.{Dialling, Connected}
 use Rattle.session.specs.Session.{stateNumber}
@@ -41,7 +41,7 @@ abbrev pub dial12 : List Call
 dial12 = map (λ (byte : ℕ). typing byte false 4) (ascii "ATDT12\r")
 
 pub dialled : (bookAfter 8000 blank dial12 .state ≡ Dialling) × (bookAfter 8000 blank dial12 .digits ≡ ascii "12") × (bookAfter 8000 blank dial12 .count ≡ 0)
-unfolding entered entryOf typedByte commandByte ended pushed upper uppercased begins is commandOf executed lineFull digitsOf keysOf isKey keyRow accepted
+unfolding entered entryOf typedByte commandByte ended pushed upper uppercased begins is commandOf executed digitsOf keysOf isKey keyRow accepted
 dialled = (refl, refl, refl)
 
 -- T, for 12 at 8,000

@@ -3,3 +3,4 @@ pub mod Mapped
 pub mod Begins
 pub mod Pushed
 pub mod Cases
+pub mod Overlong

@@ -8,7 +8,7 @@ use Rattle.ascii.specs.Ascii.{ascii}
 use Rattle.command.specs.declared.Line.{Line}
 use Rattle.command.specs.declared.Command.{Command}
 use Rattle.command.specs.declared.Command.the-variants.{At, Atz, Ati, Ata, Ath, Ato, Atdt, Unknown}
-use Rattle.command.specs.Line.{typed}
+use Rattle.command.specs.Line.{typed, ranOver}
 
 -- a line that begins with a text, and one that is the text
 unfoldable pub begins : List ℕ → List ℕ → Bool
@@ -24,9 +24,11 @@ abbrev pub read : Bool → Command → Command → Command
 read true this next = this
 read false this next = next
 
+-- 02, E1: a line that ran over is none
 unfoldable pub commandOf : Line → Command
 commandOf l =
-    read (is (ascii "AT") (typed l)) At
+    read (ranOver l) Unknown
+    (read (is (ascii "AT") (typed l)) At
     (read (is (ascii "ATZ") (typed l)) Atz
     (read (is (ascii "ATI") (typed l)) Ati
     (read (is (ascii "ATA") (typed l)) Ata
@@ -34,4 +36,4 @@ commandOf l =
     (read (is (ascii "ATH0") (typed l)) Ath
     (read (is (ascii "ATO") (typed l)) Ato
     (read (is (ascii "ATO0") (typed l)) Ato
-    (read (begins (ascii "ATDT") (typed l)) Atdt Unknown))))))))
+    (read (begins (ascii "ATDT") (typed l)) Atdt Unknown)))))))))

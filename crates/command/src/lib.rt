@@ -7,10 +7,11 @@ ghost use Rattle.command.specs.Line.{emptyLine, typed, soundLine, pushed
 ghost use Rattle.command.specs.Command as commands;
 ghost use Rattle.command.specs.Command.{begins, is, commandOf};
 
-// A command line: the first `len` of its bytes.
+// A command line: the first `len` of its bytes, and whether more were typed than it holds.
 pub struct Line {
     pub bytes: [u8; 80],
     pub len: usize,
+    pub ran_over: bool,
 }
 
 // A command for each arm of at.rs's `execute`.
@@ -32,6 +33,7 @@ impl Line {
         Line {
             bytes: [0; 80],
             len: 0,
+            ran_over: false,
         }
     }
 
@@ -39,16 +41,19 @@ impl Line {
     pub fn sound(self) -> bool
         ensures { λ r. ⌜ r ≡ soundLine self ⌝ }
     {
-        self.len <= 80
+        (self.len <= 80) & !(self.ran_over & (self.len < 80))
     }
 
-    // One byte more. A full line takes none; 01 declines that byte beforehand.
+    // One byte more. A full line drops it, and remembers that it ran over.
     pub fn push(self, byte: u8) -> Self
         ensures { λ r. ⌜ r ≡ pushed self byte ⌝ }
     {
         let at = self.len;
         if 80 <= at {
-            return self;
+            return Line {
+                ran_over: true,
+                ..self
+            };
         }
         let mut line = self;
         line.bytes[at] = byte;
@@ -68,6 +73,7 @@ impl Line {
         Line {
             bytes,
             len: self.len,
+            ran_over: self.ran_over,
         }
     }
 
@@ -101,7 +107,7 @@ impl Line {
         self.starts_with(text)
     }
 
-    // Which command an uppercased line is: at.rs's arms, from the last up.
+    // Which command an uppercased line is: at.rs's arms, from the last up. One that ran over is none.
     pub fn command(self) -> Command
         ensures { λ r. ⌜ r ≡ commandOf self ⌝ }
     {
@@ -113,7 +119,8 @@ impl Line {
         let rest = read(self.equals(b"ATA"), Command::Ata, rest);
         let rest = read(self.equals(b"ATI"), Command::Ati, rest);
         let rest = read(self.equals(b"ATZ"), Command::Atz, rest);
-        read(self.equals(b"AT"), Command::At, rest)
+        let rest = read(self.equals(b"AT"), Command::At, rest);
+        read(self.ran_over, Command::Unknown, rest)
     }
 }
 

@@ -5,7 +5,8 @@ use mathlib.Core.Path.{_≡_, refl, ap, _∙_}
 use mathlib.Core.Bool.{Bool, true, false}
 use lib.Dec.{leb, eqb}
 use native.Mathlib.Omega.{arith}
-use Rattle.at.specs.Processor.{commandMode, seen}
+use Rattle.command.specs.Line.{ranOver}
+use Rattle.at.specs.Processor.{commandMode, lineOf, seen}
 use Rattle.stage.specs.declared.StageState.{StageState}
 use Rattle.stage.specs.declared.StageState.the-variants as at
 use Rattle.session.specs.declared.SessionState.{SessionState}
@@ -71,6 +72,7 @@ back s =
       flag-back (commandMode (s .processor)),
       flag-back (seen (s .processor)),
       flag-back (plain (s .session .stage) .tone),
+      flag-back (ranOver (lineOf (s .processor))),
       state-back (s .session .state),
       stage-back (s .session .stage),
     )
@@ -85,6 +87,7 @@ reload s =
       stage-range (s .session .stage) .0,
       stage-range (s .session .stage) .1,
       flag-low (plain (s .session .stage) .tone),
+      flag-low (ranOver (lineOf (s .processor))),
     )
     (back s)
 

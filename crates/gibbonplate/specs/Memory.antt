@@ -11,6 +11,7 @@ use Rattle.nco.specs.declared.Nco.{Nco}
 use Rattle.fsk.specs.declared.FskChannel.{FskChannel}
 use Rattle.stage.specs.declared.StageState.{StageState}
 use Rattle.stage.specs.declared.StageState.the-variants as at
+use Rattle.command.specs.Line.{ranOver}
 use Rattle.at.specs.declared.AtProcessor.{AtProcessor}
 use Rattle.at.specs.Processor.{commandMode, lineOf, pluses, seen, downTime}
 use Rattle.session.specs.declared.SessionState.{SessionState}
@@ -23,7 +24,7 @@ use Rattle.gibbonplate.specs.declared.plain.PlainStage.{PlainStage}
 -- longs: the line's length, the idle time, the down time, the number of digits, the stage's own number
 -- counts: the rate, m, the stage's samples or bits done, Cj's zeros
 -- reals: two oscillators
--- marks: the mode, pluses held, the carrier-seen mark, the state, the shown stage; the stage, its ring, whether in tone
+-- marks: the mode, pluses held, the carrier-seen mark, the state, the shown stage; the stage, its ring, whether in tone; whether the line ran over
 -- line: its 80 bytes; keys: the 76 places of the digits
 pub record Memory : Type 0 where
   pub longs : List ℕ
@@ -101,6 +102,7 @@ marksOf s =
     ∷ plain (s .session .stage) .number
     ∷ plain (s .session .stage) .ring
     ∷ flag (plain (s .session .stage) .tone)
+    ∷ flag (ranOver (lineOf (s .processor)))
     ∷ []
 
 unfoldable pub stored : Set → Memory
@@ -124,7 +126,8 @@ holdsSet marks =
     && (leb (getD marks 2 0) 1
     && (leb (getD marks 3 0) 3
     && (leb 1 (getD marks 5 0)
-    && (leb (getD marks 5 0) 10 && leb (getD marks 7 0) 1))))
+    && (leb (getD marks 5 0) 10
+    && (leb (getD marks 7 0) 1 && leb (getD marks 8 0) 1)))))
 
 abbrev pub plainIn : List ℕ → List ℕ → List Float → List ℕ → PlainStage
 plainIn longs counts reals marks =
@@ -143,7 +146,7 @@ abbrev pub processorIn : List ℕ → List ℕ → List ℕ → AtProcessor
 processorIn longs marks line =
     record {
       «in_command_mode» = eqb (getD marks 0 0) 1;
-      «cmd_buf» = record { bytes = line; len = getD longs 0 0 };
+      «cmd_buf» = record { bytes = line; len = getD longs 0 0; «ran_over» = eqb (getD marks 8 0) 1 };
       idle = getD longs 1 0;
       «plus_count» = getD marks 1 0;
       «carrier_up» = eqb (getD marks 2 0) 1;

@@ -14,7 +14,7 @@ ghost use Rattle.set.specs.Set.{freshSet};
 ghost use Rattle.gibbonplate.specs.Memory.{memory, flag, stored, holdsSet, plainIn, processorIn, setIn, loaded, kept};
 
 // How many marks a set has.
-pub const MARKS: usize = 8;
+pub const MARKS: usize = 9;
 
 fn flag(on: bool) -> u8
     ensures { λ r. ⌜ r ≡ flag on ⌝ }
@@ -30,7 +30,8 @@ fn holds_set(marks: &[u8; MARKS]) -> bool
 {
     (marks[0] <= 1)
         & ((marks[2] <= 1)
-            & ((marks[3] <= 3) & ((1 <= marks[5]) & ((marks[5] <= 10) & (marks[7] <= 1)))))
+            & ((marks[3] <= 3)
+                & ((1 <= marks[5]) & ((marks[5] <= 10) & ((marks[7] <= 1) & (marks[8] <= 1))))))
 }
 
 fn no_set() -> Set
@@ -82,6 +83,7 @@ fn processor_in(longs: &[u64; 5], marks: &[u8; MARKS], line: &[u8; 80]) -> AtPro
         cmd_buf: Line {
             bytes,
             len: longs[0] as usize,
+            ran_over: marks[8] == 1,
         },
         idle: longs[1],
         plus_count: marks[1],
@@ -178,6 +180,7 @@ pub fn store(
         x.number,
         x.ring,
         flag(x.tone),
+        flag(cmd_buf.ran_over),
     ];
     *line = bytes;
     *keys = places;

@@ -45,7 +45,7 @@ new-answers r answer d = let told : answer ≡ made r = d in rw told (refl, λ d
 module _ (s : Set) where
   pub feed-answers : (byte : ℕ) (carrier : Bool) (κs : Lfts 1) (out : RefT (List ℕ)) (left : List ℕ) (answer : Typed)
       → feed.Learnt κs (s, (byte, (carrier, (out, tt)))) answer (s, (byte, (carrier, (at-last out left, tt))))
-      → ByCause s (typingCause s byte (length (now out))) (typedEvent byte carrier (now out) left answer)
+      → ByCause s (typingCause s (length (now out))) (typedEvent byte carrier (now out) left answer)
   unfolding typed outbox
   feed-answers byte carrier κs out left answer d =
       let told : answer ≡ typed s byte carrier (length (now out)) = d .0 in

@@ -9,7 +9,6 @@ use Rattle.keys.specs.Keys.{held, allKeys}
 use Rattle.stage.specs.declared.StageState.the-variants as at
 use Rattle.soundness.specs.Sound.{rateOk, digitsOk, stateOk, soundState}
 use Rattle.at.specs.Processor as processor
-use Rattle.at.specs.At.{lineFull}
 use Rattle.session.specs.declared.SessionState.the-variants.{Connected}
 use Rattle.session.specs.Session.{stateNumber, idle}
 use Rattle.set.specs.declared.Set.{Set}
@@ -36,7 +35,7 @@ unfolding sound soundState stateOk digitsOk allKeys rateOk idle processor.sound 
 unsound-81 = refl
 
 pub record Declined6 (s : Set) : Type 0 where
-  pub typing : (byte n : ℕ) → refusalNumber (typingCause s byte n) ≡ 6
+  pub typing : (n : ℕ) → refusalNumber (typingCause s n) ≡ 6
   pub time : refusalNumber (lapseCause s) ≡ 6
   pub forcing : refusalNumber (forcedCause s) ≡ 6
   pub filling : (b : ℕ) → refusalNumber (fillCause s b) ≡ 6
@@ -44,19 +43,26 @@ pub record Declined6 (s : Set) : Type 0 where
 
 unsound-declined : (s : Set) → sound s ≡ false → Declined6 s
 unfolding typingCause lapseCause forcedCause fillCause ringCause
-unsound-declined s e = record { typing = λ byte n. rw e; time = rw e; forcing = rw e; filling = λ b. rw e; ring = rw e }
+unsound-declined s e = record { typing = λ n. rw e; time = rw e; forcing = rw e; filling = λ b. rw e; ring = rw e }
 
 pub line-81 : Declined6 (ones 81)
 line-81 = unsound-declined (ones 81) unsound-81
 
--- 2, 3 bytes; 4, the 81st "1"
-pub outbox-3 : refusalNumber (typingCause (freshSet 8000) 49 3) ≡ 2
-unfolding sound soundState stateOk digitsOk allKeys rateOk idle processor.sound soundLine lineFull typingCause
-outbox-3 = refl
+-- 02, E1: 6, a mark on a line of 79
+abbrev marked79 : Set
+marked79 = moved (freshSet 8000) (processor.withLine (line.marked 79) processor.fresh) idle
 
-pub one-81 : refusalNumber (typingCause (ones 80) 49 4) ≡ 4
-unfolding sound soundState stateOk digitsOk allKeys rateOk idle processor.sound soundLine lineFull typingCause
-one-81 = refl
+unsound-marked79 : sound marked79 ≡ false
+unfolding sound soundState stateOk digitsOk allKeys rateOk idle processor.sound soundLine
+unsound-marked79 = refl
+
+pub mark-79 : Declined6 marked79
+mark-79 = unsound-declined marked79 unsound-marked79
+
+-- 2, 3 bytes
+pub outbox-3 : refusalNumber (typingCause (freshSet 8000) 3) ≡ 2
+unfolding sound soundState stateOk digitsOk allKeys rateOk idle processor.sound soundLine typingCause
+outbox-3 = refl
 
 -- 3, 65,537; 5, length 1 in Connected
 pub samples-65537 : refusalNumber (fillCause (freshSet 8000) 65537) ≡ 3
@@ -67,11 +73,7 @@ pub connected-1 : refusalNumber (fillCause up 1) ≡ 5
 unfolding sound soundState stateOk digitsOk allKeys rateOk processor.sound soundLine stateNumber fillCause
 connected-1 = refl
 
--- with two causes the first in the table's order: 2 before 4, and 3 before 5
-pub outbox-3-line-80 : refusalNumber (typingCause (ones 80) 49 3) ≡ 2
-unfolding sound soundState stateOk digitsOk allKeys rateOk idle processor.sound soundLine lineFull typingCause
-outbox-3-line-80 = refl
-
+-- with two causes the first in the table's order: 3 before 5
 pub connected-65537 : refusalNumber (fillCause up 65537) ≡ 3
 unfolding sound soundState stateOk digitsOk allKeys rateOk processor.sound soundLine stateNumber fillCause
 connected-65537 = refl

@@ -28,7 +28,7 @@ use Rattle.at.specs.declared.AtProcessor.{AtProcessor}
 use Rattle.at.specs.declared.Control.{Control}
 use Rattle.at.specs.declared.Control.the-variants.{Nothing, Dial, Answer, Hangup}
 use Rattle.at.specs.Processor as processor
-use Rattle.at.specs.At.{typedByte, lapse, forcedData, lineFull}
+use Rattle.at.specs.At.{typedByte, lapse, forcedData}
 use Rattle.at.proofs.Sound.{sound-typed, sound-lapse, sound-forced}
 use Rattle.session.specs.declared.SessionState.{SessionState}
 use Rattle.session.specs.declared.SessionState.the-variants.{Idle, Dialling, Answering, Connected}
@@ -130,10 +130,9 @@ by-cause r k s inv cause entry next left never taken = go (eqb (refusalNumber ca
         record { follows = q .follows; sound = q .sound; number = eqb-true _ 0 e ∙ q .number; limits = q .limits; wrote = q .wrote }
     go false e = record { follows = inv .follows; sound = inv .sound; number = refl; limits = never; wrote = tt }
 
-typing-never-6 : (room full : Bool) → refusalNumber (causeOfTyping true room full) ≡ 6 → ⊥
-typing-never-6 false full e = omega arith
-typing-never-6 true true e = omega arith
-typing-never-6 true false e = omega arith
+typing-never-6 : (room : Bool) → refusalNumber (causeOfTyping true room) ≡ 6 → ⊥
+typing-never-6 false e = omega arith
+typing-never-6 true e = omega arith
 
 fill-never-6 : (long up : Bool) → refusalNumber (causeOfFill true long up) ≡ 6 → ⊥
 fill-never-6 true up e = omega arith
@@ -148,11 +147,10 @@ module _ (r : ℕ) (k : Book) (s : Set) (inv : Invariant r k s) where
       → Effect r k (entryOf k (typing byte carrier n)) (typed s byte carrier n .set) (typed s byte carrier n .refusal) []
   unfolding typed typingCause entryOf
   typing-effect byte carrier n =
-      let full : lineFull (s .processor) byte ≡ lineFull (k .processor) byte = ap (λ (p : AtProcessor). lineFull p byte) (inv .follows .processor) in
       let few = few-typed (k .processor) good byte (heardIn (k .state) carrier) n in
-      rw (inv .sound, full)
-      (by-cause r k s inv (causeOfTyping true (leb 4 n) (lineFull (k .processor) byte)) _ (byteTaken s byte carrier n) []
-      (typing-never-6 (leb 4 n) (lineFull (k .processor) byte))
+      rw (inv .sound)
+      (by-cause r k s inv (causeOfTyping true (leb 4 n)) _ (byteTaken s byte carrier n) []
+      (typing-never-6 (leb 4 n))
       (λ _. record {
         follows = rw (same-fed r k s (inv .follows) byte carrier n) (applies r k s (inv .follows) (fedBy k byte carrier n .control) _ _ few);
         sound = byte-sound s (inv .sound) byte carrier n;

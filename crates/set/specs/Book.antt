@@ -15,7 +15,7 @@ use Rattle.at.specs.declared.Control.the-variants.{Nothing, Dial, Answer, Hangu
 use Rattle.at.specs.declared.Fed.{Fed}
 use Rattle.at.specs.declared.Outcome.{Outcome}
 use Rattle.at.specs.Processor.{fresh}
-use Rattle.at.specs.At.{typedByte, afterAtdt, lapse, forcedData, lineFull}
+use Rattle.at.specs.At.{typedByte, afterAtdt, lapse, forcedData}
 use Rattle.session.specs.declared.SessionState.{SessionState}
 use Rattle.session.specs.declared.SessionState.the-variants.{Idle, Dialling, Answering, Connected}
 use Rattle.control.specs.Control.{heardIn}
@@ -107,7 +107,7 @@ unlessDeclined cause entry = ifAccepted cause entry (declined cause)
 unfoldable pub entryOf : Book → Call → Entry
 entryOf k (typing byte carrier room) =
     let fed = fedBy k byte carrier room in
-    unlessDeclined (causeOfTyping true (leb 4 room) (lineFull (k .processor) byte)) (asks (fed .control) (afterAtdt fed) (fed .processor))
+    unlessDeclined (causeOfTyping true (leb 4 room)) (asks (fed .control) (afterAtdt fed) (fed .processor))
 entryOf k (time ns carrier) = asks (lapsedBy k ns carrier .control) [] (lapsedBy k ns carrier .processor)
 entryOf k forcing = asks Nothing [] (forcedData (k .processor))
 entryOf k (filling b) = unlessDeclined (causeOfFill true (ltb 65536 b) (isUpIn (k .state))) (fills b)
@@ -118,7 +118,7 @@ numberOf (declined cause) = refusalNumber cause
 numberOf (asks control line p) = 0
 numberOf (fills b) = 0
 
--- a call declined with 2, 3, 4 or 5 changes nothing in the book
+-- a call declined with 2, 3 or 5 changes nothing in the book
 abbrev pub nextBook : ℕ → Book → Entry → Book
 nextBook r k (declined cause) = k
 nextBook r k (asks control line p) = applied control line p k

@@ -1,17 +1,17 @@
--- 01, "When a call is declined": its table. The causes of each call in the order in which they are checked, and their numbers; 0 for none.
+-- 01, "When a call is declined": its table. The causes of each call in the order in which they are checked, and their numbers; 0 for none. 02, E1:
+-- number 4 never occurs.
 use Prim.Native.Nat.{ℕ}
 use mathlib.Core.Path.{_≡_}
 use mathlib.Core.Bool.{Bool, true, false}
 use lib.Dec.{eqb}
 use Rattle.set.specs.declared.Refusal.{Refusal}
-use Rattle.set.specs.declared.Refusal.the-variants.{Accepted, Rate, Outbox, Length, LineFull, Connected, Unsound}
+use Rattle.set.specs.declared.Refusal.the-variants.{Accepted, Rate, Outbox, Length, Connected, Unsound}
 
 abbrev pub refusalNumber : Refusal → ℕ
 refusalNumber Accepted = 0
 refusalNumber Rate = 1
 refusalNumber Outbox = 2
 refusalNumber Length = 3
-refusalNumber LineFull = 4
 refusalNumber Connected = 5
 refusalNumber Unsound = 6
 
@@ -25,12 +25,11 @@ abbrev pub causeOfSound : (ok : Bool) → Refusal
 causeOfSound false = Unsound
 causeOfSound true = Accepted
 
--- a typed byte: 6, 2, 4
-abbrev pub causeOfTyping : (ok room full : Bool) → Refusal
-causeOfTyping false room full = Unsound
-causeOfTyping true false full = Outbox
-causeOfTyping true true true = LineFull
-causeOfTyping true true false = Accepted
+-- a typed byte: 6, 2
+abbrev pub causeOfTyping : (ok room : Bool) → Refusal
+causeOfTyping false room = Unsound
+causeOfTyping true false = Outbox
+causeOfTyping true true = Accepted
 
 -- a fill: 6, 3, 5
 abbrev pub causeOfFill : (ok long up : Bool) → Refusal

@@ -10,7 +10,7 @@ use Rattle.ascii.specs.Front.{put}
 use Rattle.reply.specs.declared.Reply.the-variants as reply
 use Rattle.at.specs.declared.AtProcessor.{AtProcessor}
 use Rattle.at.specs.Processor.{fresh}
-use Rattle.at.specs.At.{typedByte, sent, afterAtdt, lapse, forcedData, lineFull}
+use Rattle.at.specs.At.{typedByte, sent, afterAtdt, lapse, forcedData}
 use Rattle.session.specs.declared.Session.{Session}
 use Rattle.session.specs.declared.SessionState.{SessionState}
 use Rattle.session.specs.Session.{stateNumber, idle, filled, written, ringNumber}
@@ -43,8 +43,8 @@ unfoldable pub made : ℕ → Made
 made r = record { set = freshSet (ifAccepted (creationCause r) r 8000); refusal = creationCause r }
 
 -- a typed byte: of the set, the byte, the carrier flag, and the outbox's length, 4 bytes at least
-unfoldable pub typingCause : Set → ℕ → ℕ → Refusal
-typingCause s byte n = causeOfTyping (sound s) (leb 4 n) (lineFull (s .processor) byte)
+unfoldable pub typingCause : Set → ℕ → Refusal
+typingCause s n = causeOfTyping (sound s) (leb 4 n)
 
 abbrev pub byteTaken : Set → ℕ → Bool → ℕ → Set
 byteTaken s byte carrier n =
@@ -53,7 +53,7 @@ byteTaken s byte carrier n =
 
 unfoldable pub typed : Set → ℕ → Bool → ℕ → Typed
 typed s byte carrier n =
-    let cause = typingCause s byte n in
+    let cause = typingCause s n in
     let fed = typedByte (s .processor) byte (heard (s .session) carrier) n in
     record {
       set = ifAccepted cause (byteTaken s byte carrier n) s;
@@ -64,7 +64,7 @@ typed s byte carrier n =
 
 -- the outbox: the bytes sent at its front, later ones as they were
 unfoldable pub outbox : Set → ℕ → List ℕ → List ℕ
-outbox s byte was = ifAccepted (typingCause s byte (length was)) (put (sent (s .processor) byte) was) was
+outbox s byte was = ifAccepted (typingCause s (length was)) (put (sent (s .processor) byte) was) was
 
 -- a lapse of time
 unfoldable pub lapseCause : Set → Refusal

@@ -26,7 +26,6 @@ pub enum Refusal {
     Rate,
     Outbox,
     Length,
-    LineFull,
     Connected,
     Unsound,
 }
@@ -72,7 +71,7 @@ pub struct Rung {
 }
 
 impl Refusal {
-    // 01's number.
+    // 01's number. 4, which a full line had, is given no more.
     pub fn number(self) -> u8
         ensures { λ r. ⌜ r ≡ refusalNumber self ⌝ }
     {
@@ -81,7 +80,6 @@ impl Refusal {
             Refusal::Rate => 1,
             Refusal::Outbox => 2,
             Refusal::Length => 3,
-            Refusal::LineFull => 4,
             Refusal::Connected => 5,
             Refusal::Unsound => 6,
         }
@@ -158,16 +156,12 @@ impl Set {
         Refusal::Unsound
     }
 
-    fn typing_cause(self, byte: u8, room: usize) -> Refusal
-        ensures { λ r. ⌜ r ≡ typingCause self byte room ⌝ }
+    fn typing_cause(self, room: usize) -> Refusal
+        ensures { λ r. ⌜ r ≡ typingCause self room ⌝ }
     {
-        let processor = self.processor;
         if self.sound() {
             if room < MIN_OUTBOX {
                 return Refusal::Outbox;
-            }
-            if processor.line_full(byte) {
-                return Refusal::LineFull;
             }
             return Refusal::Accepted;
         }
@@ -182,7 +176,7 @@ impl Set {
         let processor = self.processor;
         let session = self.session;
         let state = session.state;
-        let refusal = self.typing_cause(byte, out.len());
+        let refusal = self.typing_cause(out.len());
         if refusal.accepted() {
             let heard = control::heard_in(state, carrier);
             let fed = processor.feed(byte, heard, out);

@@ -3,7 +3,8 @@ use borrow.Author.Needs.{needs}
 use mathlib.Core.Path.{_≡_, refl}
 use mathlib.Core.Bool.{Bool}
 use Rattle.command.specs.declared.Command.{Command}
-use Rattle.command.specs.declared.Command.the-variants.{At, Atz, Ati, Ata, Ath, Ato, Atdt}
+use Rattle.command.specs.declared.Command.the-variants.{At, Atz, Ati, Ata, Ath, Ato, Atdt, Unknown}
+use Rattle.command.specs.Line.{ranOver}
 use Rattle.command.specs.Command.{read, commandOf}
 use Rattle.command.proofs.Line.command.Statement.{statement}
 use Rattle.command.proofs.Line.command.Tie as tie
@@ -14,7 +15,8 @@ row this e f g = rw (← f, ← g) e
 returns : tie.Need-returns
 unfolding commandOf
 returns c =
-    let c8 = c .before .before .before in
+    let c9 = c .before in
+    let c8 = c9 .before .before .before in
     let c7 = c8 .before .before .before in
     let c6 = c7 .before .before .before in
     let c5 = c6 .before .before .before in
@@ -22,7 +24,8 @@ returns c =
     let c3 = c4 .before .before .before in
     let c2 = c3 .before .before .before in
     let c1 = c2 .before .before .before in
-    row At (c .read9 .ensures) (c .before .equals8 .ensures)
+    row {t = ranOver (c1 .before .before .before .args .self)} Unknown (c .read10 .ensures) refl
+    (row At (c9 .read9 .ensures) (c9 .before .equals8 .ensures)
     (row Atz (c8 .read8 .ensures) (c8 .before .equals7 .ensures)
     (row Ati (c7 .read7 .ensures) (c7 .before .equals6 .ensures)
     (row Ata (c6 .read6 .ensures) (c6 .before .equals5 .ensures)
@@ -30,7 +33,7 @@ returns c =
     (row Ath (c4 .read4 .ensures) (c4 .before .equals3 .ensures)
     (row Ato (c3 .read3 .ensures) (c3 .before .equals2 .ensures)
     (row Ato (c2 .read2 .ensures) (c2 .before .equals .ensures)
-    (row Atdt (c1 .read .ensures) (c1 .before .starts-with .ensures) refl))))))))
+    (row Atdt (c1 .read .ensures) (c1 .before .starts-with .ensures) refl)))))))))
 
 pub command-spec : {M : Type 1} → statement M
 command-spec =
@@ -45,4 +48,5 @@ command-spec =
     (λ c. search needs) (λ c κs. search needs) (λ c κs. search needs)
     (λ c. search needs) (λ c κs. search needs) (λ c κs. search needs)
     (λ c. search needs) (λ c κs. search needs) (λ c κs. search needs)
+    (λ c κs. search needs)
     returns)

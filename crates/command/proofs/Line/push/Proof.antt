@@ -8,7 +8,7 @@ use Rattle.command.proofs.Line.push.Tie as tie
 
 returns : tie.Need-returns
 unfolding pushed
-returns c = rw (le-ltb (c .before .args .self .len) 80 (omega arith))
+returns c = rw (le-ltb (c .before .before .args .self .len) 80 (omega arith))
 
 element-write-line : tie.Need-element-write-line
 element-write-line c = search needs

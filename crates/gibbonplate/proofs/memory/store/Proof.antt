@@ -20,16 +20,20 @@ number-requires c κs = search needs
 flag-requires-3 : tie.Need-flag-requires-3
 flag-requires-3 c κs = search needs
 
+flag-requires-4 : tie.Need-flag-requires-4
+flag-requires-4 c κs = search needs
+
 returns : tie.Need-returns
 unfolding stored
 returns c =
     laid _ _
     (rw (
-      c .before .flag3 .ensures,
-      c .before .before .number .ensures,
-      c .before .before .before .flag2 .ensures,
-      c .before .before .before .before .flag .ensures,
-      c .before .before .before .before .before .before .before .before .plain .ensures,
+      c .before .flag4 .ensures,
+      c .before .before .flag3 .ensures,
+      c .before .before .before .number .ensures,
+      c .before .before .before .before .flag2 .ensures,
+      c .before .before .before .before .before .flag .ensures,
+      c .before .before .before .before .before .before .before .before .before .plain .ensures,
     ))
 
 pub store-spec : {M : Type 1} → statement M
@@ -41,4 +45,5 @@ store-spec =
     flag-requires-2
     number-requires
     flag-requires-3
+    flag-requires-4
     returns)

@@ -1,4 +1,4 @@
--- `Set::typing_cause` meets its contract: an unsound set, a short outbox, a full line. Assumes nothing.
+-- `Set::typing_cause` meets its contract: an unsound set, a short outbox. Assumes nothing.
 use borrow.Author.Tests.{le-leb, lt-leb}
 use Rattle.set.specs.Set.{typingCause}
 use borrow.Author.Needs.{needs}
@@ -12,21 +12,13 @@ returns : tie.Need-returns
 unfolding typingCause
 returns c = rw (← c .before .before .sound .ensures, c .before .if1 .taken, lt-leb 4 _ (c .if2 .taken))
 
-line-full-requires : tie.Need-line-full-requires
-line-full-requires c κs = search needs
-
 returns-2 : tie.Need-returns-2
 unfolding typingCause
-returns-2 c = rw (← c .before .before .before .before .sound .ensures, c .before .before .before .if1 .taken, le-leb 4 _ (c .before .before .if2 .left), ← c .before .line-full .ensures, c .if3 .taken)
+returns-2 c = rw (← c .before .before .sound .ensures, c .before .if1 .taken, le-leb 4 _ (c .if2 .left))
 
 returns-3 : tie.Need-returns-3
 unfolding typingCause
-returns-3 c = rw (← c .before .before .before .before .sound .ensures, c .before .before .before .if1 .taken, le-leb 4 _ (c .before .before .if2 .left), ← c .before .line-full .ensures, c .if3 .left)
-
-returns-4 : tie.Need-returns-4
-unfolding typingCause
-returns-4 c = rw (← c .before .sound .ensures, c .if1 .left)
+returns-3 c = rw (← c .before .sound .ensures, c .if1 .left)
 
 pub typing-cause-spec : {M : Type 1} → statement M
-typing-cause-spec =
-    tie.close (tie.spec sound-requires returns line-full-requires returns-2 returns-3 returns-4)
+typing-cause-spec = tie.close (tie.spec sound-requires returns returns-2 returns-3)
