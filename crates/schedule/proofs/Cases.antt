@@ -33,11 +33,15 @@ at-4800 : digitAt (timeAt 8000 4800) ≡ 2
 unfolding digitAt floorOf div ofInt ofBits
 at-4800 = refl
 
+-- the digits end on their edge where the clock tells the next digit there
+on-time : (d n : ℕ) → d ≤ 76 → 0 < d → 1 ≤ n → d * 8000 ≡ 5 * n → digitAt (timeAt 8000 n) ≡ d → diallingLength 8000 d ≡ n
+on-time d n D P N e told =
+    let near = dialling-near 8000 (lit≤ tt) (lit≤ tt) d D in
+    let ends = dialling-ends 8000 (lit≤ tt) (lit≤ tt) d D P in
+    le-antisymm (le-of-suc-le-suc (lt-of-not-le (λ (g : suc n ≤ diallingLength 8000 d). absurd (omega (arith, told, ends .before n N g))))) (omega arith)
+
 pub two-digits-at-8000 : diallingLength 8000 2 ≡ 3200
-two-digits-at-8000 =
-    let near = dialling-near 8000 (lit≤ tt) (lit≤ tt) 2 (lit≤ tt) in
-    let ends = dialling-ends 8000 (lit≤ tt) (lit≤ tt) 2 (lit≤ tt) (lit< tt) in
-    le-antisymm (le-of-suc-le-suc (lt-of-not-le (λ (g : 3201 ≤ diallingLength 8000 2). absurd (omega (arith, at-3200, ends .before 3200 (lit≤ tt) g))))) (omega arith)
+two-digits-at-8000 = on-time 2 3200 (lit≤ tt) (lit< tt) (lit≤ tt) refl at-3200
 
 pub three-digits-at-8000 : diallingLength 8000 3 ≡ 4801
 three-digits-at-8000 = go (diallingLength 8000 3) (dialling-near 8000 (lit≤ tt) (lit≤ tt) 3 (lit≤ tt)) (dialling-ends 8000 (lit≤ tt) (lit≤ tt) 3 (lit≤ tt) (lit< tt) .reached)
@@ -69,6 +73,10 @@ second-digit-in-tone k lo hi = elim (eq-or-lt-of-le lo) [
   | inl e ↦ subst Second e at-1600
   | inr l ↦ elim (eq-or-lt-of-le hi) [ inl e ↦ subst Second (sym e) at-2400 | inr h ↦ in-tone 8000 (lit≤ tt) (lit≤ tt) k (omega arith) 1 (lit≤ tt) (omega arith) (omega arith) ]
 ]
+
+-- the first digit and its gap take the 1,600 before them
+pub one-digit-at-8000 : diallingLength 8000 1 ≡ 1600
+one-digit-at-8000 = on-time 1 1600 (lit≤ tt) (lit< tt) (lit≤ tt) refl (at-1600 .0)
 
 -- and no others of the 2 ^ 32 that a count can be
 pub second-digit-only : (k : ℕ) → k < 2 ^ 32 → Second k → (1600 ≤ k) × (k ≤ 2400)
