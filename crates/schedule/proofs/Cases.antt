@@ -4,7 +4,7 @@ use mathlib.Core.Path.{_≡_, refl, sym, subst, _∙_}
 use mathlib.Core.Logic.{inl, inr}
 use mathlib.Core.Bool.{Bool, true, false, not, true≢false}
 use Prim.Native.Nat.{ℕ, zero, suc, _*_, _^_, _≤_, _<_}
-use native.Mathlib.Nat.{le-of-eq, le-of-lt, le-antisymm, lt-of-not-le, eq-or-lt-of-le, le-of-suc-le-suc, zero-lt-suc}
+use native.Mathlib.Nat.{le-of-eq, le-of-lt, lt-of-not-le, eq-or-lt-of-le, le-of-suc-le-suc, zero-lt-suc}
 use native.Mathlib.Omega.{arith}
 use lib.Dec.{T, ltb, ltb→lt, nltb→le, lit<, lit≤}
 use lib.Ieee.{sub, mul, div, lt, ofInt, ofBits}
@@ -14,7 +14,7 @@ use Rattle.schedule.specs.Time.{timeAt, samplesIn}
 use Rattle.schedule.specs.Dialling.{digitAt, inTone}
 use Rattle.schedule.specs.Length.{clickTime, diallingLength}
 use Rattle.schedule.proofs.Digits.{digit-late, digit-past, in-tone, in-gap}
-use Rattle.schedule.proofs.Lengths.{dialling-none, dialling-ends, dialling-near}
+use Rattle.schedule.proofs.Lengths.{dialling-none, dialling-there, dialling-after}
 
 -- R(0.05) = 400
 pub click-at-8000 : samplesIn clickTime 8000 ≡ 400
@@ -33,23 +33,11 @@ at-4800 : digitAt (timeAt 8000 4800) ≡ 2
 unfolding digitAt floorOf div ofInt ofBits
 at-4800 = refl
 
--- the digits end on their edge where the clock tells the next digit there
-on-time : (d n : ℕ) → d ≤ 76 → 0 < d → 1 ≤ n → d * 8000 ≡ 5 * n → digitAt (timeAt 8000 n) ≡ d → diallingLength 8000 d ≡ n
-on-time d n D P N e told =
-    let near = dialling-near 8000 (lit≤ tt) (lit≤ tt) d D in
-    let ends = dialling-ends 8000 (lit≤ tt) (lit≤ tt) d D P in
-    le-antisymm (le-of-suc-le-suc (lt-of-not-le (λ (g : suc n ≤ diallingLength 8000 d). absurd (omega (arith, told, ends .before n N g))))) (omega arith)
-
 pub two-digits-at-8000 : diallingLength 8000 2 ≡ 3200
-two-digits-at-8000 = on-time 2 3200 (lit≤ tt) (lit< tt) (lit≤ tt) refl at-3200
+two-digits-at-8000 = dialling-there 8000 (lit≤ tt) (lit≤ tt) 2 (lit≤ tt) (lit< tt) 3200 (lit≤ tt) (lit< tt) (le-of-eq (sym at-3200))
 
 pub three-digits-at-8000 : diallingLength 8000 3 ≡ 4801
-three-digits-at-8000 = go (diallingLength 8000 3) (dialling-near 8000 (lit≤ tt) (lit≤ tt) 3 (lit≤ tt)) (dialling-ends 8000 (lit≤ tt) (lit≤ tt) 3 (lit≤ tt) (lit< tt) .reached)
-  where
-    go : (m : ℕ) → (24000 ≤ 5 * m) × (5 * m ≤ 24005) → 3 ≤ digitAt (timeAt 8000 m) → m ≡ 4801
-    go m near reached =
-        let past : m ≡ 4800 → ⊥ = λ e. omega (arith, at-4800, subst (λ (z : ℕ). 3 ≤ digitAt (timeAt 8000 z)) e reached) in
-        omega arith
+three-digits-at-8000 = dialling-after 8000 (lit≤ tt) (lit≤ tt) 3 (lit≤ tt) (lit< tt) 4800 (lit≤ tt) (lit< tt) (omega (arith, at-4800))
 
 -- ---- the second digit sounds for 801 samples: those that 1,600 to 2,400 samples of the stage come before
 -- the pair that a sample is made with, after k samples, is the second digit's tone
@@ -74,10 +62,6 @@ second-digit-in-tone k lo hi = elim (eq-or-lt-of-le lo) [
   | inr l ↦ elim (eq-or-lt-of-le hi) [ inl e ↦ subst Second (sym e) at-2400 | inr h ↦ in-tone 8000 (lit≤ tt) (lit≤ tt) k (omega arith) 1 (lit≤ tt) (omega arith) (omega arith) ]
 ]
 
--- the first digit and its gap take the 1,600 before them
-pub one-digit-at-8000 : diallingLength 8000 1 ≡ 1600
-one-digit-at-8000 = on-time 1 1600 (lit≤ tt) (lit< tt) (lit≤ tt) refl (at-1600 .0)
-
 -- and no others of the 2 ^ 32 that a count can be
 pub second-digit-only : (k : ℕ) → k < 2 ^ 32 → Second k → (1600 ≤ k) × (k ≤ 2400)
 second-digit-only k most s = (from k most (s .0), le-of-suc-le-suc (lt-of-not-le past))
@@ -95,3 +79,7 @@ second-digit-only k most s = (from k most (s .0), le-of-suc-le-suc (lt-of-not-le
           | inl e ↦ omega (arith, s .0, subst (λ (z : ℕ). digitAt (timeAt 8000 z) ≡ 2) e at-3200)
           | inr w ↦ omega (arith, s .0, digit-past 8000 (lit≤ tt) (lit≤ tt) k (omega arith) (le-of-lt most) 2 (lit≤ tt) (omega arith))
         ]
+
+-- ---- so the first digit and its gap have the 1,600 before that: 02, E2
+pub one-digit-at-8000 : diallingLength 8000 1 ≡ 1600
+one-digit-at-8000 = dialling-there 8000 (lit≤ tt) (lit≤ tt) 1 (lit≤ tt) (lit< tt) 1600 (lit≤ tt) (lit< tt) (le-of-eq (sym (at-1600 .0)))
