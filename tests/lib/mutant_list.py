@@ -393,6 +393,28 @@ LINES = [
     one("main.rs", "fresh_at_another_rate", "Set::new(set::LOWEST_RATE)", "Set::new(48_000)"),
 ]
 
+# ---------------------------------------------------------------- 02's requests
+
+CUE = [
+    one("cue.rs", "cue_counted_from_0", "firsts.push(number - 1)", "firsts.push(number - 2)"),
+    one("cue.rs", "cue_on_the_first_sound", "firsts.push(number - 1)", "firsts.push(number)"),
+    one("cue.rs", "cue_in_the_gap_before", "firsts.push(number - 1)", "firsts.push(number - 1 - !firsts.is_empty() as u64)"),
+    one("cue.rs", "cue_in_the_middle", "firsts.push(number - 1)", "firsts.push(number - 1 + rate as u64 / 20)"),
+    one("cue.rs", "cue_by_whole_numbers", "    firsts\n}",
+        "    let first = firsts.first().copied().unwrap_or(0);"
+        " (0..firsts.len() as u64).map(|p| first + (p * rate as u64).div_ceil(5)).collect()\n}"),
+    one("cue.rs", "cue_by_whole_numbers_and_one", "    firsts\n}",
+        "    let first = firsts.first().copied().unwrap_or(0);"
+        " (0..firsts.len() as u64).map(|p| first + p * rate as u64 / 5 + (p > 0) as u64).collect()\n}"),
+    one("set.rs", "cue_in_every_state", "if self.session.state() != SessionState::Dialling {", "if false {"),
+    one("set.rs", "cue_declined_with_6", "None => (Answer::declined(7), 0)", "None => (Answer::declined(6), 0)"),
+    one("set.rs", "cue_of_the_next_digit", "first_samples().get(position)", "first_samples().get(position + 1)"),
+    one("set.rs", "declined_cue_has_a_sample", "None => (Answer::declined(7), 0)", "None => (Answer::declined(7), 1)"),
+    one("stand_in.rs", "cue_of_the_call_before", "self.dialled = digits.to_string();\n        self.firsts = None;", "self.dialled = digits.to_string();"),
+    one("lines.rs", "cue_without_ext", "if extended && position <= 255", "if position <= 255"),
+    one("lines.rs", "cue_position_of_256", "position <= 255", "position <= 256"),
+]
+
 # ---------------------------------------------------------------- Cannot be seen
 
 UNSEEN = [
@@ -423,4 +445,4 @@ UNSEEN = [
     one("at.rs", "unseen_fourth_plus_late", "1 | 2 => idle <= GUARD_TIME", "1 | 2 | 4.. => idle <= GUARD_TIME", unseen="no more than three are held"),
 ]
 
-ALL = FLOATS + KEYS + STAGES + SET + REFUSALS + AT + LINES + UNSEEN
+ALL = FLOATS + KEYS + STAGES + SET + REFUSALS + AT + LINES + CUE + UNSEEN

@@ -101,6 +101,18 @@ impl Set {
         Answer::default()
     }
 
+    /// 02's E2: 7 where nothing is being dialled, or there is no such digit.
+    pub fn cue(&mut self, position: usize) -> (Answer, u64) {
+        self.session.begin_call(false);
+        if self.session.state() != SessionState::Dialling {
+            return (Answer::declined(7), 0);
+        }
+        match self.session.first_samples().get(position) {
+            Some(&sample) => (Answer::default(), sample),
+            None => (Answer::declined(7), 0),
+        }
+    }
+
     pub fn in_command_mode(&self) -> bool {
         self.at.in_command_mode()
     }
