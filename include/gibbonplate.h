@@ -165,8 +165,8 @@ static inline uint8_t gibbonplate_ring(const gibbonplate_set *set, uint8_t *ring
 }
 
 /*
- * sample gets the number, from 1, of a sample in the tone of the digit at a position, from 0.
- * Declines with 6 and 7, in this order, sample 0.
+ * sample gets the number, from 1 in the whole call, of the first sample in the tone of the digit at a
+ * position, from 0: no smaller number lies in it. Declines with 6 and 7, in this order, sample 0.
  */
 static inline uint8_t gibbonplate_cue(const gibbonplate_set *set, uint32_t position, uint64_t *sample)
 {

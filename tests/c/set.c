@@ -187,8 +187,10 @@ static void refusals(void)
     /* 7, and a cue */
     CHECK(gibbonplate_cue(&set, 0, &sample) == 7 && sample == 0);
     type(&set, "ATDT12\r");
-    CHECK(gibbonplate_cue(&set, 1, &sample) == 0 && sample > 400 + 8000 + 1600 && sample <= 400 + 8000 + 2400);
+    CHECK(gibbonplate_cue(&set, 0, &sample) == 0 && sample == 400 + 8000 + 1);
+    CHECK(gibbonplate_cue(&set, 1, &sample) == 0 && sample == 400 + 8000 + 1600 + 1);
     CHECK(gibbonplate_cue(&set, 2, &sample) == 7 && sample == 0);
+    CHECK(gibbonplate_cue(&set, UINT32_MAX, &sample) == 7 && sample == 0);
     CHECK(gibbonplate_digits(&set, digits) == 2 && memcmp(digits, "12", 2) == 0);
 
     /* 3 */

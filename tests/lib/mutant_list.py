@@ -240,9 +240,10 @@ REFUSALS = [
     one("set.rs", "line_of_79", "LINE_LIMIT: usize = 80", "LINE_LIMIT: usize = 79"),
     one("set.rs", "line_of_81", "LINE_LIMIT: usize = 80", "LINE_LIMIT: usize = 81"),
     one("set.rs", "overlong_line_dials", "if dials && line.len() > LINE_LIMIT {", "if false {"),
-    one("set.rs", "overlong_line_dials_what_fits", "line = b\"ran over\".to_vec();", "line.truncate(LINE_LIMIT);"),
+    one("set.rs", "overlong_line_dials_what_fits", "line = b\"ATDX\".to_vec();", "line.truncate(LINE_LIMIT);"),
     one("set.rs", "overlong_lower_case_line_dials", "line[..4].eq_ignore_ascii_case(b\"ATDT\")", "line[..4] == *b\"ATDT\""),
-    one("set.rs", "overlong_line_has_no_answer", "line = b\"ran over\".to_vec();", "line.clear();"),
+    one("set.rs", "overlong_line_has_no_answer", "self.hand_over_line();",
+        "if self.line.len() > LINE_LIMIT { self.line.clear(); return Answer::default(); } self.hand_over_line();"),
     one("set.rs", "lf_counts_in_the_line", "byte != b'\\r' && byte != b'\\n' {", "byte != b'\\r' {"),
     one("set.rs", "data_counts_in_the_line", "if self.at.in_command_mode() && byte == b'\\r' {",
         "if !self.at.in_command_mode() { self.line.push(byte); }\n        if self.at.in_command_mode() && byte == b'\\r' {"),
@@ -393,6 +394,28 @@ LINES = [
     one("main.rs", "fresh_at_another_rate", "Set::new(set::LOWEST_RATE)", "Set::new(48_000)"),
 ]
 
+# ---------------------------------------------------------------- 02's requests
+
+CUE = [
+    one("cue.rs", "cue_counted_from_0", "firsts.push(number - 1)", "firsts.push(number - 2)"),
+    one("cue.rs", "cue_on_the_first_sound", "firsts.push(number - 1)", "firsts.push(number)"),
+    one("cue.rs", "cue_in_the_gap_before", "firsts.push(number - 1)", "firsts.push(number - 1 - !firsts.is_empty() as u64)"),
+    one("cue.rs", "cue_in_the_middle", "firsts.push(number - 1)", "firsts.push(number - 1 + rate as u64 / 20)"),
+    one("cue.rs", "cue_by_whole_numbers", "    firsts\n}",
+        "    let first = firsts.first().copied().unwrap_or(0);"
+        " (0..firsts.len() as u64).map(|p| first + (p * rate as u64).div_ceil(5)).collect()\n}"),
+    one("cue.rs", "cue_by_whole_numbers_and_one", "    firsts\n}",
+        "    let first = firsts.first().copied().unwrap_or(0);"
+        " (0..firsts.len() as u64).map(|p| first + p * rate as u64 / 5 + (p > 0) as u64).collect()\n}"),
+    one("set.rs", "cue_in_every_state", "if self.session.state() != SessionState::Dialling {", "if false {"),
+    one("set.rs", "cue_declined_with_6", "None => (Answer::declined(7), 0)", "None => (Answer::declined(6), 0)"),
+    one("set.rs", "cue_of_the_next_digit", "first_samples().get(position)", "first_samples().get(position + 1)"),
+    one("set.rs", "declined_cue_has_a_sample", "None => (Answer::declined(7), 0)", "None => (Answer::declined(7), 1)"),
+    one("stand_in.rs", "cue_of_the_call_before", "self.dialled = digits.to_string();\n        self.firsts = None;", "self.dialled = digits.to_string();"),
+    one("lines.rs", "cue_without_ext", "if extended && position <= 255", "if position <= 255"),
+    one("lines.rs", "cue_position_of_256", "position <= 255", "position <= 256"),
+]
+
 # ---------------------------------------------------------------- Cannot be seen
 
 UNSEEN = [
@@ -423,4 +446,4 @@ UNSEEN = [
     one("at.rs", "unseen_fourth_plus_late", "1 | 2 => idle <= GUARD_TIME", "1 | 2 | 4.. => idle <= GUARD_TIME", unseen="no more than three are held"),
 ]
 
-ALL = FLOATS + KEYS + STAGES + SET + REFUSALS + AT + LINES + UNSEEN
+ALL = FLOATS + KEYS + STAGES + SET + REFUSALS + AT + LINES + CUE + UNSEEN

@@ -128,6 +128,15 @@ def dialling_length(count, rate):
     return n
 
 
+def first_sample(position, rate):
+    """02's E2: the first sample of a digit's tone, numbered from 1 in the whole overture."""
+    # The clock never runs backwards, so the search may start a little early.
+    n = max(0, position * rate // 5 - 2)
+    while digit_at(n, rate) != (position, True):
+        n += 1
+    return seconds(0.05, rate) + seconds(1, rate) + n + 1
+
+
 @functools.lru_cache(maxsize=4096)
 def bits_length(count, rate):
     """Samples until `count` bits are done, by the symbol phase."""
@@ -267,7 +276,7 @@ class Set:
         self.command_mode, self.line, self.over = True, b"", False
         self.pluses, self.idle = 0, 0
         self.seen, self.down = False, 0
-        self.sent = b""
+        self.sent, self.cued = b"", 0
 
     # Each call gives (refusal, codes); `sent` holds what the last one sent.
 
@@ -334,6 +343,14 @@ class Set:
         if self.state != DIALLING:
             return 0
         return ring_after(self.m, len(self.digits), self.rate)
+
+    def cue(self, position):
+        """02's E2; `cued` holds the sample."""
+        self.sent, self.cued = b"", 0
+        if self.state != DIALLING or position >= len(self.digits):
+            return 7, ()
+        self.cued = first_sample(position, self.rate)
+        return 0, ()
 
     def length(self):
         """T for the digits dialled."""
@@ -404,6 +421,7 @@ def parsed(line, extended=False):
     }
     if extended:
         limits[b"T", 3] = (255, 1, 16)
+        limits[b"C", 1] = (255,)
     limit = limits.get((letter, len(numbers)))
     if limit is None or any(most is not None and n > most for n, most in zip(numbers, limit)):
         return None
@@ -429,6 +447,8 @@ class Wall:
             return self.set.advance_time(numbers[0], numbers[1] == 1)
         if letter == "F":
             return self.set.process_out(numbers[0])
+        if letter == "C":
+            return self.set.cue(numbers[0])
         return self.set.force_data_mode()
 
     def answer(self, call):
@@ -438,8 +458,10 @@ class Wall:
         mode = "C" if s.command_mode else "D"
         return f"{refusal},{mode},{s.state},{s.shown},{s.m},{first},{second}"
 
-    def facts(self):
+    def facts(self, call):
         """The part of the oracle's second line that needs no samples."""
+        if call[0] == "C":
+            return f"# cue={self.set.cued}"
         return f"# ring={self.set.ring()} sent={self.set.sent.hex().upper() or '-'}"
 
 

@@ -55,7 +55,7 @@ def count(script, answers, extended=False, spread=None):
         if at + 2 > len(rows):
             raise Disagreement(f"line {number} {line!r}: no answer")
         before = Before(wall.set)
-        expected, facts = wall.answer(call), wall.facts()
+        expected, facts = wall.answer(call), wall.facts(call)
         row, second = rows[at], rows[at + 1]
         at += 2
         if row != expected or not (second == facts or second.startswith(facts + " n=")):
@@ -270,7 +270,28 @@ def note_forced(reached, before, numbers, after, row):
     reached["data mode forced with pluses held"] += before.pluses > 0
 
 
-NOTES = {"R": note_create, "T": note_typed, "W": note_lapse, "F": note_fill, "D": note_forced}
+def note_cue(reached, before, numbers, after, row):
+    position, name = numbers[0], STATE_NAMES[before.state]
+    if row[0] == "7":
+        why = "no such digit" if before.state == DIALLING else name
+        reached[f"cue declined: {why}"] += 1
+        reached["cue at position d"] += before.state == DIALLING and position == len(before.digits)
+        reached["cue with no digits"] += before.state == DIALLING and not before.digits
+        return
+    reached["cue"] += 1
+    reached["cue of the first digit"] += position == 0
+    reached["cue of the last digit"] += position == len(before.digits) - 1
+    reached["cue of the 76th digit"] += position == 75
+    reached["cue of a digit that was heard"] += before.m >= after.cued
+    whole, rest = divmod(position * before.rate, 5)
+    place = after.cued - before.ends[1] - 1
+    if position and rest == 0:
+        reached["cue on a whole place" if place == whole else "cue one after a whole place"] += 1
+    elif position:
+        reached["cue off a whole place"] += 1
+
+
+NOTES = {"R": note_create, "T": note_typed, "W": note_lapse, "F": note_fill, "D": note_forced, "C": note_cue}
 
 
 # ---------------------------------------------------------------- what must be reached
@@ -319,6 +340,10 @@ def must(extended):
         names += ["refusal 2", "refusal 3", "outbox too short in command mode", "outbox too short in data mode"]
         names += [f"outbox of {n}" for n in range(4)]
         names += [f"fill too long in {state}" for state in STATE_NAMES] + ["fill of 65,536"]
+        names += ["refusal 7", "cue of the first digit", "cue of the last digit", "cue of the 76th digit"]
+        names += ["cue of a digit that was heard", "cue on a whole place", "cue one after a whole place", "cue off a whole place"]
+        names += [f"cue declined: {why}" for why in ("no such digit", "Idle", "Answering", "Connected")]
+        names += ["cue at position d", "cue with no digits"]
     return names
 
 

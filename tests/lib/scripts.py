@@ -26,7 +26,7 @@ OTHER_LINES = (
     b"T,A,0", b"t,65,0", b"W", b"W,1", b"W,1,2", b"W,18446744073709551616,0", b"W,1,0,0", b"W,,0", b"W,1.5,0",
     b"F", b"F,", b"F,-1", b"F,70001", b"F,18446744073709551617", b"F,1,1", b"F,0x10", b"D,", b"D,0", b"D ",
     b"d", b"DD", b"X", b"X,1", b"0", b",", b",,", b"R,8000\r", b"D\r", b"F,1\r", b"\xff\xfe", b"T,65,0\x00",
-    b"# ring=0", b"0,C,0,0,0,0,0",
+    b"# ring=0", b"0,C,0,0,0,0,0", b"C", b"C,", b"C,256", b"C,0,0", b"c,0", b"C,-1", b"C,18446744073709551616", b"# cue=0",
 )
 
 
@@ -362,6 +362,25 @@ class Script:
             else:
                 self.fill(self.random.choice((16_385, 65_535, 65_536, 65_537, 70_000, 70_001)))
 
+    def cue(self, position):
+        self.put(b"C," + self.number(position))
+
+    def scene_cue(self):
+        """02's E2: the cue in every state, of digits that there are and of some that there are not."""
+        if not self.extended:
+            return
+        pick = self.random.random()
+        if pick < 0.4:
+            self.dial_line()
+        elif pick < 0.6:
+            self.dial_whole(76)
+        count = len(self.set.digits)
+        for _ in range(self.random.randint(1, 4)):
+            self.cue(self.random.choice((0, 1, 3, 7, count // 2, max(count, 1) - 1, count, self.random.randint(0, 255))))
+        if self.chance(0.3):
+            self.scene_fill()
+            self.cue(self.random.randint(0, max(count, 1)))
+
     def scene_in_connected(self):
         """Fills, bytes and a new dial once the line is up."""
         if self.set.state != CONNECTED:
@@ -374,6 +393,8 @@ class Script:
         self.scene_noise()
         if self.extended and self.chance(0.3):
             self.fill(65_537)
+        if self.extended and self.chance(0.3):
+            self.cue(0)
         followers = (self.scene_dial, self.scene_carrier, self.scene_resume, self.scene_hang_up, self.scene_escape)
         self.random.choice(followers)()
 
@@ -384,14 +405,21 @@ class Script:
             self.fill(self.random.choice((0, 0, 1, 8, 9, 160)))
         if self.extended and self.chance(0.3):
             self.fill(65_537)
+        if self.extended and self.chance(0.3):
+            self.cue(0)
         followers = (self.scene_dial, self.scene_carrier, self.scene_resume, self.scene_hang_up, self.scene_escape)
         self.random.choice(followers)()
+
+    def dial_whole(self, count):
+        """A dial line of `count` digits, of which no byte is declined."""
+        self.to_command_mode()
+        for byte in (b"\r" if self.set.line else b"") + b"ATDT" + bytes(self.random.choice(KEYS) for _ in range(count)) + b"\r":
+            self.put(b"T,%d,0" % byte)
 
     def whole_call(self, count):
         """One call of `count` digits until the line is up, in buffers of many lengths."""
         self.create(self.random.choice(USUAL_RATES) if self.chance(0.2) else self.random.randint(8_000, 192_000))
-        for byte in b"ATDT" + bytes(self.random.choice(KEYS) for _ in range(count)) + b"\r":
-            self.put(b"T,%d,0" % byte)
+        self.dial_whole(count)
         for end in paper.stage_ends(count, self.set.rate):
             target = end + self.random.choice((-1, 0, 0, 1))
             while self.set.state == DIALLING and self.set.m < target:
@@ -406,8 +434,8 @@ class Script:
     SCENES = (
         (scene_fresh, 6), (scene_command, 12), (scene_empty_line, 2), (scene_dial, 10), (scene_fill, 10),
         (scene_stage_end, 8), (scene_walk, 3), (scene_line_up, 3), (scene_inner_edge, 5), (scene_escape, 10),
-        (scene_carrier, 8), (scene_resume, 5), (scene_hang_up, 4), (scene_huge_lapse, 2), (scene_forced, 4), (scene_long_line, 3), (scene_other_lines, 4), (scene_noise, 5),
-        (scene_extended, 8), (scene_in_connected, 3), (scene_in_answering, 3),
+        (scene_carrier, 8), (scene_resume, 5), (scene_hang_up, 4), (scene_huge_lapse, 2), (scene_forced, 4), (scene_long_line, 4), (scene_other_lines, 4), (scene_noise, 5),
+        (scene_extended, 8), (scene_cue, 6), (scene_in_connected, 3), (scene_in_answering, 3),
     )
 
     def write(self, count):

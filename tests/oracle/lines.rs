@@ -1,5 +1,5 @@
 //! The lines of 01's program `wall`, read strictly: a letter, then fields of decimal
-//! digits, each after a comma. A line that is none of the five is `None`.
+//! digits, each after a comma; and those that --ext adds. A line that is none of them is `None`.
 
 use core::time::Duration;
 
@@ -9,11 +9,12 @@ pub enum Call {
     Lapse { time: Duration, carrier: bool },
     Fill { length: usize },
     ForceData,
+    Cue { position: usize },
 }
 
 const WIDEST_OUTBOX: u128 = 16;
 
-/// With `extended`, a T line may give the outbox length and fills may be longer.
+/// With `extended`, a T line may give the outbox length, fills may be longer, and there are C lines.
 pub fn read_line(line: &[u8], extended: bool) -> Option<Call> {
     let mut parts = line.split(|&b| b == b',');
     let letter = parts.next()?;
@@ -29,6 +30,7 @@ pub fn read_line(line: &[u8], extended: bool) -> Option<Call> {
         }),
         (b"F", &[length]) if length <= longest_fill => Some(Call::Fill { length: length as usize }),
         (b"D", &[]) => Some(Call::ForceData),
+        (b"C", &[position]) if extended && position <= 255 => Some(Call::Cue { position: position as usize }),
         _ => None,
     }
 }

@@ -3,8 +3,8 @@
 //!
 //! oracle [--bits] [--ext] < lines
 //!
-//! --bits adds a line to each answer: ring, bytes sent and, for a fill, its samples.
-//! --ext lets T lines give the outbox length and fills be longer than `wall` allows.
+//! --bits adds a line to each answer: ring, bytes sent and, for a fill, its samples; for a cue, its sample.
+//! --ext lets T lines give the outbox length and fills be longer than `wall` allows, and adds the lines of 02.
 
 // The Rust is compiled as it is; what 01 leaves out of it is never called.
 #![allow(dead_code)]
@@ -16,6 +16,13 @@ mod lines;
 use lines::{read_line, Call};
 use set::{Answer, Set};
 use std::io::{self, BufRead, BufReader, BufWriter, Write};
+
+/// What the second line tells of a call.
+enum Second {
+    Sent,
+    Filled(Vec<f32>),
+    Cued(u64),
+}
 
 /// What a buffer holds before its fill, so that a declined one can be told.
 const UNTOUCHED: u32 = 0x3F9D_70A4;
@@ -54,29 +61,33 @@ fn run(bits: bool, extended: bool) -> io::Result<()> {
             line.pop();
         }
         let Some(call) = read_line(&line, extended) else { continue };
-        let (answer, buffer) = perform(&mut set, call);
+        let (answer, second) = perform(&mut set, call);
         print_answer(&mut output, &set, &answer)?;
         if bits {
-            print_bits(&mut output, &set, buffer)?;
+            print_second(&mut output, &set, second)?;
         }
     }
 }
 
-/// The answer, and for a fill its buffer.
-fn perform(set: &mut Set, call: Call) -> (Answer, Option<Vec<f32>>) {
+/// The answer, and what its second line tells.
+fn perform(set: &mut Set, call: Call) -> (Answer, Second) {
     match call {
         Call::Create { rate } => {
             let (answer, fresh) = Set::new(rate);
             *set = fresh;
-            (answer, None)
+            (answer, Second::Sent)
         }
-        Call::Type { byte, carrier, outbox } => (set.feed(byte, carrier, outbox), None),
-        Call::Lapse { time, carrier } => (set.advance_time(time, carrier), None),
-        Call::ForceData => (set.force_data_mode(), None),
+        Call::Type { byte, carrier, outbox } => (set.feed(byte, carrier, outbox), Second::Sent),
+        Call::Lapse { time, carrier } => (set.advance_time(time, carrier), Second::Sent),
+        Call::ForceData => (set.force_data_mode(), Second::Sent),
         Call::Fill { length } => {
             let mut buffer = vec![f32::from_bits(UNTOUCHED); length];
             let answer = set.process_out(&mut buffer);
-            (answer, Some(buffer))
+            (answer, Second::Filled(buffer))
+        }
+        Call::Cue { position } => {
+            let (answer, sample) = set.cue(position);
+            (answer, Second::Cued(sample))
         }
     }
 }
@@ -91,7 +102,19 @@ fn print_answer(out: &mut impl Write, set: &Set, answer: &Answer) -> io::Result<
     )
 }
 
-fn print_bits(out: &mut impl Write, set: &Set, buffer: Option<Vec<f32>>) -> io::Result<()> {
+fn print_second(out: &mut impl Write, set: &Set, second: Second) -> io::Result<()> {
+    match second {
+        Second::Sent => print_sent(out, set)?,
+        Second::Filled(samples) => {
+            print_sent(out, set)?;
+            print_samples(out, &samples)?;
+        }
+        Second::Cued(sample) => write!(out, "# cue={sample}")?,
+    }
+    writeln!(out)
+}
+
+fn print_sent(out: &mut impl Write, set: &Set) -> io::Result<()> {
     write!(out, "# ring={} sent=", set.ring())?;
     if set.session.sent.is_empty() {
         write!(out, "-")?;
@@ -99,17 +122,18 @@ fn print_bits(out: &mut impl Write, set: &Set, buffer: Option<Vec<f32>>) -> io::
     for byte in &set.session.sent {
         write!(out, "{byte:02X}")?;
     }
-    if let Some(samples) = buffer {
-        write!(out, " n={}", samples.len())?;
-        if samples.len() <= 8 {
-            for sample in &samples {
-                write!(out, " {:08X}", sample.to_bits())?;
-            }
-        } else {
-            write!(out, " fnv={:016X}", fnv(&samples))?;
-        }
+    Ok(())
+}
+
+fn print_samples(out: &mut impl Write, samples: &[f32]) -> io::Result<()> {
+    write!(out, " n={}", samples.len())?;
+    if samples.len() > 8 {
+        return write!(out, " fnv={:016X}", fnv(samples));
     }
-    writeln!(out)
+    for sample in samples {
+        write!(out, " {:08X}", sample.to_bits())?;
+    }
+    Ok(())
 }
 
 /// 64-bit FNV-1a over the samples' bits, low byte first.

@@ -10,6 +10,7 @@ mod overture;
 #[path = "session.rs"]
 mod rust_session;
 
+mod cue;
 mod left_out;
 #[path = "stand_in.rs"]
 mod session;

@@ -38,7 +38,8 @@ impl Answer {
 pub struct Set {
     at: AtProcessor,
     pub session: Session,
-    /// The unfinished line. at.rs has no end to its lines, so a line is handed to it with its CR.
+    /// The unfinished line. at.rs has it too, but of a dial line only ATD: there is no end to its lines, so
+    /// the rest is handed to it with the CR.
     line: Vec<u8>,
     m: u64,
 }
@@ -63,7 +64,9 @@ impl Set {
         }
         if self.at.in_command_mode() && byte != b'\r' && byte != b'\n' {
             self.line.push(byte);
-            return Answer::default();
+            if self.dials() {
+                return Answer::default();
+            }
         }
         if self.at.in_command_mode() && byte == b'\r' {
             self.hand_over_line();
@@ -101,6 +104,18 @@ impl Set {
         Answer::default()
     }
 
+    /// 02's E2: 7 where nothing is being dialled, or there is no such digit.
+    pub fn cue(&mut self, position: usize) -> (Answer, u64) {
+        self.session.begin_call(false);
+        if self.session.state() != SessionState::Dialling {
+            return (Answer::declined(7), 0);
+        }
+        match self.session.first_samples().get(position) {
+            Some(&sample) => (Answer::default(), sample),
+            None => (Answer::declined(7), 0),
+        }
+    }
+
     pub fn in_command_mode(&self) -> bool {
         self.at.in_command_mode()
     }
@@ -128,15 +143,19 @@ impl Set {
         self.session.ring_number().unwrap_or(0)
     }
 
-    /// Types the line into at.rs. Any other line of more than 80 bytes is no command there
-    /// either; a dial line of more is one that 02 does not dial, and is typed as one that is none.
+    fn dials(&self) -> bool {
+        self.line.len() >= 4 && self.line[..4].eq_ignore_ascii_case(b"ATDT")
+    }
+
+    /// Types what at.rs has not of a dial line. One of more than 80 bytes 02 does not dial: it is typed as one
+    /// that is none. Any other line of more is no command there either.
     fn hand_over_line(&mut self) {
+        let dials = self.dials();
         let mut line = core::mem::take(&mut self.line);
-        let dials = line.len() >= 4 && line[..4].eq_ignore_ascii_case(b"ATDT");
         if dials && line.len() > LINE_LIMIT {
-            line = b"ran over".to_vec();
+            line = b"ATDX".to_vec();
         }
-        for byte in line {
+        for &byte in line.iter().skip(if dials { 3 } else { line.len() }) {
             self.at.feed(byte, &mut self.session);
         }
     }

@@ -1,6 +1,7 @@
 //! The session that at.rs sees: session.rs's own, with two of 01's stand-ins around it,
 //! the carrier flag handed in with a call and `send` recording its bytes.
 
+use crate::cue;
 use crate::overture::Stage;
 use crate::rust_session::{Session as RustSession, SessionState};
 use crate::{Config, Duplex, Role};
@@ -13,13 +14,17 @@ pub struct Session {
     pub sent: Vec<u8>,
     /// Whether the call under way dialled, answered or hung up.
     pub moved: bool,
+    rate: u32,
+    /// What was last dialled, and where its digits begin, once that was asked.
+    dialled: String,
+    firsts: Option<Vec<u64>>,
 }
 
 impl Session {
     pub fn new(sample_rate: u32) -> Self {
         let config = Config { sample_rate, role: Role::Originate, duplex: Duplex::Full };
         let inner = RustSession::new(config);
-        Self { inner, carrier: false, sent: Vec::new(), moved: false }
+        Self { inner, carrier: false, sent: Vec::new(), moved: false, rate: sample_rate, dialled: String::new(), firsts: None }
     }
 
     pub fn begin_call(&mut self, carrier: bool) {
@@ -31,6 +36,14 @@ impl Session {
     pub fn dial(&mut self, digits: &str) {
         self.inner.dial(digits);
         self.moved = true;
+        self.dialled = digits.to_string();
+        self.firsts = None;
+    }
+
+    /// The first sample of each digit dialled. A call is played for it once.
+    pub fn first_samples(&mut self) -> &[u64] {
+        let (dialled, rate) = (&self.dialled, self.rate);
+        self.firsts.get_or_insert_with(|| cue::first_samples(dialled, rate))
     }
 
     pub fn answer(&mut self) {

@@ -1,5 +1,5 @@
 // Makes a call: types the dial line, fills buffers of uneven lengths until the line is up, writes the
-// samples up to T to a WAV file, and prints when each stage came.
+// samples up to T to a WAV file, and prints when each stage and each digit came.
 mod file;
 mod play;
 mod stages;
@@ -66,6 +66,6 @@ fn call(digits: &[u8], rate: u32, path: &[u8]) {
     let up = stages::find_all(dialled, &mut samples, &mut firsts);
     let total = table::between(1, firsts[10]);
     if file::write(path, dialled, total, &mut samples) {
-        table::print(&firsts, rate, up.m());
+        table::print(&firsts, dialled, up.m());
     }
 }

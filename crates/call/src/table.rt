@@ -1,13 +1,17 @@
-// What is printed of a call: a line for each stage, its length T, and when the line was up.
+// What is printed of a call: a line for each stage and for each digit, its length T, and when the line was up.
+use crate::play;
+use set::Set;
 
-pub fn print(firsts: &[u32; 11], rate: u32, up: u32) {
-    let mut page = [0u8; 2048];
+pub fn print(firsts: &[u32; 11], dialled: Set, up: u32) {
+    let mut page = [0u8; 8192];
+    let rate = dialled.rate();
     let mut k = text::put(
         &mut page,
         0,
         b"stage  name         first   samples   seconds\n",
     );
     k = put_stages(&mut page, k, firsts, rate);
+    k = put_digits(&mut page, k, dialled);
     k = put_end(&mut page, k, between(1, firsts[10]), rate, up);
     if console::stream::flush(&page, k) {
         return;
@@ -60,11 +64,48 @@ fn put_name(page: &mut [u8], at: usize, stage: usize) -> usize {
 }
 
 fn put_length(page: &mut [u8], at: usize, samples: u32, rate: u32) -> usize {
-    let mut word = [0u8; 20];
     let k = put_number(page, at, samples as u64, 10);
+    put_seconds(page, k, samples, rate, 10)
+}
+
+// How long so many samples last, at the line's end.
+fn put_seconds(page: &mut [u8], at: usize, samples: u32, rate: u32, width: usize) -> usize {
+    let mut word = [0u8; 20];
     let n = text::put_seconds(&mut word, 0, samples, rate);
-    let end = put_right(page, k, &word, n, 10);
-    text::put_byte(page, end, b'\n')
+    let k = put_right(page, at, &word, n, width);
+    text::put_byte(page, k, b'\n')
+}
+
+fn put_digits(page: &mut [u8], at: usize, dialled: Set) -> usize {
+    let digits = dialled.digits();
+    let keys = digits.keys;
+    let len = digits.len;
+    if len == 0 {
+        return at;
+    }
+    let k = text::put(page, at, b"digit               first             seconds\n");
+    put_keys(page, k, dialled, &keys, len)
+}
+
+// The first `len` keys.
+fn put_keys(page: &mut [u8], at: usize, dialled: Set, keys: &[u8], len: usize) -> usize {
+    let mut k = at;
+    let mut i: usize = 0;
+    while i < keys.len() && i < len {
+        let cued = cue::cue(dialled, play::at_most(i, u32::MAX));
+        k = put_key(page, k, keys[i], cued.sample, dialled.rate());
+        i += 1;
+    }
+    k
+}
+
+// A digit, its first sample, and how long after the call's first that is.
+fn put_key(page: &mut [u8], at: usize, key: u8, sample: u64, rate: u32) -> usize {
+    let word = [key];
+    let first = play::at_most(sample as usize, u32::MAX);
+    let mut k = put_right(page, at, &word, 1, 5);
+    k = put_number(page, k, sample, 20);
+    put_seconds(page, k, between(1, first), rate, 20)
 }
 
 fn put_number(page: &mut [u8], at: usize, number: u64, width: usize) -> usize {

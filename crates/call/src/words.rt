@@ -91,16 +91,8 @@ fn call_of(line: &[u8], k: usize) -> Call {
 }
 
 fn rate_in(call: Call) -> u32 {
-    match call {
-        Call::Rate(rate) => rate,
-        Call::Typed {
-            byte: _,
-            carrier: _,
-            outbox: _,
-        } => 0,
-        Call::Lapse { ns: _, carrier: _ } => 0,
-        Call::Fill(_) => 0,
-        Call::ForcedData => 0,
-        Call::Other => 0,
+    if let Call::Rate(rate) = call {
+        return rate;
     }
+    0
 }

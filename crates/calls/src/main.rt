@@ -1,5 +1,5 @@
-// The calls that no other program makes: the cue, the writer of replies, the digits' reader, the lent
-// oscillator, and every call on sets that are not sound. Buffers are dots, or samples of 1.23, before
+// The calls that no other program makes: the writer of replies, the digits' reader, the lent oscillator,
+// and every call on sets that are not sound; and the cue. Buffers are dots, or samples of 1.23, before
 // each call, and are printed whole after it.
 mod lent;
 mod sets;

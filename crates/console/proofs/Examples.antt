@@ -3,8 +3,8 @@ use Prim.Native.String.{String}
 use mathlib.Core.Bool.{true, false}
 use mathlib.Core.Path.{_≡_, refl}
 use Rattle.console.specs.declared.lines.Call.{Call}
-use Rattle.console.specs.declared.lines.Call.the-variants.{Rate, Typed, Lapse, Fill, ForcedData, Other}
-use Rattle.console.specs.Lines.{cut, fieldsOf, allDigits, valueFrom, numberIf, numberOf, also, numbersOf, fillIf, fillCall, typedIf, typedCall, lapseIf, lapseCall, bareCall, oneCall, twoCall, threeCall, numbersCall, letterCall, fieldsCall, callOf}
+use Rattle.console.specs.declared.lines.Call.the-variants.{Rate, Typed, Lapse, Fill, ForcedData, Cue, Other}
+use Rattle.console.specs.Lines.{cut, fieldsOf, allDigits, valueFrom, numberIf, numberOf, also, numbersOf, fillIf, fillCall, typedIf, typedCall, lapseIf, lapseCall, cueIf, cueCall, bareCall, addedCall, oneCall, twoCall, threeCall, numbersCall, letterCall, fieldsCall, callOf}
 use Rattle.ascii.specs.Ascii.{ascii}
 
 -- a line of `wall`, and of `tap --ext`
@@ -22,9 +22,10 @@ calls : (plain "R,8000" ≡ Rate 8000)
     × (plain "D" ≡ ForcedData)
     × (extended "T,65,0,3" ≡ Typed 65 false 3)
     × (extended "F,70000" ≡ Fill 70000)
+    × (extended "C,255" ≡ Cue 255)
     × (plain "R,99999999999999999999999" ≡ Rate 4294967295)
-unfolding plain extended cut fieldsOf allDigits valueFrom numberIf numberOf also numbersOf fillIf fillCall typedIf typedCall lapseIf lapseCall bareCall oneCall twoCall threeCall numbersCall letterCall fieldsCall callOf
-calls = (refl, refl, refl, refl, refl, refl, refl, refl, refl)
+unfolding plain extended cut fieldsOf allDigits valueFrom numberIf numberOf also numbersOf fillIf fillCall typedIf typedCall lapseIf lapseCall cueIf cueCall bareCall addedCall oneCall twoCall threeCall numbersCall letterCall fieldsCall callOf
+calls = (refl, refl, refl, refl, refl, refl, refl, refl, refl, refl)
 
 others : (plain "" ≡ Other)
     × (plain "R," ≡ Other)
@@ -41,5 +42,8 @@ others : (plain "" ≡ Other)
     × (extended "T,65,0,17" ≡ Other)
     × (extended "T,65,0,3,0" ≡ Other)
     × (extended "F,70001" ≡ Other)
-unfolding plain extended cut fieldsOf allDigits valueFrom numberIf numberOf also numbersOf fillIf fillCall typedIf typedCall lapseIf lapseCall bareCall oneCall twoCall threeCall numbersCall letterCall fieldsCall callOf
-others = (refl, refl, refl, refl, refl, refl, refl, refl, refl, refl, refl, refl, refl, refl, refl)
+    × (plain "C,0" ≡ Other)
+    × (extended "C,256" ≡ Other)
+    × (extended "C" ≡ Other)
+unfolding plain extended cut fieldsOf allDigits valueFrom numberIf numberOf also numbersOf fillIf fillCall typedIf typedCall lapseIf lapseCall cueIf cueCall bareCall addedCall oneCall twoCall threeCall numbersCall letterCall fieldsCall callOf
+others = (refl, refl, refl, refl, refl, refl, refl, refl, refl, refl, refl, refl, refl, refl, refl, refl, refl, refl)

@@ -8,7 +8,7 @@ use borrow.Author.Tests.{ltb-true, ltb-false, lt-ltb, le-ltb, lt-leb}
 use lib.Dec.{leb, ltb}
 use Rattle.console.specs.declared.lines.Call.the-variants.{Rate, Other}
 use Rattle.console.specs.declared.lines.Parser.{Parser}
-use Rattle.console.specs.Lines.{is, fillCall, fillIf, typedCall, typedIf, lapseCall, lapseIf, oneCall, twoCall, threeCall}
+use Rattle.console.specs.Lines.{is, fillCall, fillIf, typedCall, typedIf, lapseCall, lapseIf, cueCall, cueIf, addedCall, oneCall, twoCall, threeCall}
 use Rattle.console.specs.Parser.{largest, digitOf, commaOf, commaIf, severalOf, answerOf, answerIf}
 
 abbrev pub capped : ℕ → ℕ
@@ -54,11 +54,22 @@ fill-capped x (within e q) = rw q
 fill-capped {v} true (past e h) = rw (lt-leb (capped v) 70000 (omega arith), lt-leb v 70000 (omega arith))
 fill-capped {v} false (past e h) = rw (lt-leb (capped v) 16384 (omega arith), lt-leb v 16384 (omega arith))
 
-one-capped : (isR isF x : Bool) (v : ℕ) → oneCall isR isF x (capped v) ≡ oneCall isR isF x v
+cue-capped : {v : ℕ} → Size v → cueCall (capped v) ≡ cueCall v
+unfolding cueCall cueIf
+cue-capped (within e q) = rw q
+cue-capped {v} (past e h) = rw (lt-leb (capped v) 255 (omega arith), lt-leb v 255 (omega arith))
+
+added-capped : (isC : Bool) (v : ℕ) → addedCall isC (capped v) ≡ addedCall isC v
+unfolding addedCall
+added-capped true v = cue-capped (size v)
+added-capped false v = refl
+
+one-capped : (isR isF x : Bool) (letter v : ℕ) → oneCall isR isF x letter (capped v) ≡ oneCall isR isF x letter v
 unfolding oneCall
-one-capped true isF x v = ap Rate (omega arith)
-one-capped false true x v = fill-capped x (size v)
-one-capped false false x v = refl
+one-capped true isF x letter v = ap Rate (omega arith)
+one-capped false true x letter v = fill-capped x (size v)
+one-capped false false true letter v = added-capped (is "C" letter) v
+one-capped false false false letter v = refl
 
 -- ---- two and three numbers
 typed-first : (n m o : ℕ) → largest < n → typedCall n m o ≡ Other
@@ -91,9 +102,9 @@ three-other true n m o h = h
 three-other false n m o h = refl
 
 -- ---- what the parser answers, with one, two or three numbers
-pub answer-one : (x : Bool) (letter w l v : ℕ) (o : Bool) → answerOf (held x letter 1 false w l v o) ≡ oneCall (is "R" letter) (is "F" letter) x v
+pub answer-one : (x : Bool) (letter w l v : ℕ) (o : Bool) → answerOf (held x letter 1 false w l v o) ≡ oneCall (is "R" letter) (is "F" letter) x letter v
 unfolding answerOf answerIf
-answer-one x letter w l v o = one-capped (is "R" letter) (is "F" letter) x v
+answer-one x letter w l v o = one-capped (is "R" letter) (is "F" letter) x letter v
 
 pub answer-two : {n m : ℕ} (x : Bool) (letter w : ℕ) → Size n → Size m → answerOf (held x letter 2 false w (capped n) m (beyond n || false)) ≡ twoCall (is "T" letter) (is "W" letter) n m
 unfolding answerOf answerIf severalOf

@@ -1,4 +1,4 @@
--- 01, "Proving cases", the program `wall`: which call a line is. A line is its bytes without the line feed.
+-- 01, "Proving cases", the program `wall`: which call a line is, and which further lines `tap --ext` has. A line is its bytes without the line feed.
 -- After the letter it holds decimal digits and commas alone; whatever else a line holds, it is an other line.
 use Prim.Native.Char.{Char, code}
 use Prim.Native.Nat.{ℕ, _+_, _-_, _*_, _^_, min}
@@ -7,7 +7,7 @@ use mathlib.Core.List.{List, [], _∷_}
 use mathlib.Core.Option.{Option, some, none}
 use lib.Dec.{leb, ltb, eqb}
 use Rattle.console.specs.declared.lines.Call.{Call}
-use Rattle.console.specs.declared.lines.Call.the-variants.{Rate, Typed, Lapse, Fill, ForcedData, Other}
+use Rattle.console.specs.declared.lines.Call.the-variants.{Rate, Typed, Lapse, Fill, ForcedData, Cue, Other}
 
 -- the byte of an ASCII character
 abbrev pub is : Char → ℕ → Bool
@@ -87,15 +87,28 @@ lapseIf false ns carrier = Other
 unfoldable pub lapseCall : ℕ → ℕ → Call
 lapseCall ns carrier = lapseIf (ltb ns (2 ^ 64) && leb carrier 1) ns carrier
 
--- D alone; R or F and one number; T or W and two, with an outbox of 16 for T; in `tap --ext` T and three
+-- C,position: at most 255
+unfoldable pub cueIf : Bool → ℕ → Call
+cueIf true n = Cue n
+cueIf false n = Other
+
+unfoldable pub cueCall : ℕ → Call
+cueCall n = cueIf (leb n 255) n
+
+-- D alone; R or F and one number; T or W and two, with an outbox of 16 for T; in `tap --ext` T and three, and C and one number
 unfoldable pub bareCall : Bool → Call
 bareCall true = ForcedData
 bareCall false = Other
 
-unfoldable pub oneCall : Bool → Bool → Bool → ℕ → Call
-oneCall true isF extended n = rateCall n
-oneCall false true extended n = fillCall extended n
-oneCall false false extended n = Other
+unfoldable pub addedCall : Bool → ℕ → Call
+addedCall true n = cueCall n
+addedCall false n = Other
+
+unfoldable pub oneCall : Bool → Bool → Bool → ℕ → ℕ → Call
+oneCall true isF extended letter n = rateCall n
+oneCall false true extended letter n = fillCall extended n
+oneCall false false true letter n = addedCall (is "C" letter) n
+oneCall false false false letter n = Other
 
 unfoldable pub twoCall : Bool → Bool → ℕ → ℕ → Call
 twoCall true isW n m = typedCall n m 16
@@ -108,7 +121,7 @@ threeCall false n m o = Other
 
 unfoldable pub numbersCall : Bool → ℕ → List ℕ → Call
 numbersCall extended letter [] = bareCall (is "D" letter)
-numbersCall extended letter (n ∷ []) = oneCall (is "R" letter) (is "F" letter) extended n
+numbersCall extended letter (n ∷ []) = oneCall (is "R" letter) (is "F" letter) extended letter n
 numbersCall extended letter (n ∷ m ∷ []) = twoCall (is "T" letter) (is "W" letter) n m
 numbersCall extended letter (n ∷ m ∷ o ∷ []) = threeCall (extended && is "T" letter) n m o
 numbersCall extended letter (n ∷ m ∷ o ∷ p ∷ ns) = Other

@@ -1,14 +1,15 @@
-// A reader of the programs' lines, R,rate / T,byte,carrier / W,ns,carrier / F,length / D, that takes
-// one byte at a time: a line may be as long as it likes, and may come in any pieces.
+// A reader of the programs' lines, R,rate / T,byte,carrier / W,ns,carrier / F,length / D, and of those
+// that `tap --ext` adds, C,position. It takes one byte at a time: a line may be as long as it likes, and
+// may come in any pieces.
 ghost use mathlib.Core.Path.{_≡_};
 ghost use mathlib.Core.Bool.{Bool, _&&_};
 ghost use mathlib.Core.List.{List, []};
 ghost use Prim.Native.Nat.{ℕ, _+_, _*_, min};
 ghost use lib.Dec.{ltb};
-ghost use Rattle.console.specs.Lines.{callOf, is, bareCall, oneCall, twoCall, threeCall, rateCall, fillCall, typedCall, lapseCall, longestOf};
+ghost use Rattle.console.specs.Lines.{callOf, is, bareCall, oneCall, addedCall, twoCall, threeCall, rateCall, fillCall, cueCall, typedCall, lapseCall, longestOf};
 ghost use Rattle.console.specs.Parser.{largest, spoiledOf, letterOf, digitOf, commaOf, nextOf, pushedOf, answerOf, parsedOf, readOf};
 
-// What a line asks for. A line that is none of the five is `Other`.
+// What a line asks for. A line that is none of these is `Other`.
 pub enum Call {
     Rate(u32),
     Typed {
@@ -23,12 +24,14 @@ pub enum Call {
     },
     Fill(usize),
     ForcedData,
+    // The digit's position.
+    Cue(u8),
     Other,
 }
 
 // What the bytes of a line so far come to.
 pub struct Parser {
-    // `tap --ext`: an outbox length may follow the carrier flag, and fills may be longer.
+    // `tap --ext`: an outbox length may follow the carrier flag, fills may be longer, and there are more lines.
     extended: bool,
     // The first byte, 0 before it.
     letter: u8,
@@ -41,7 +44,7 @@ pub struct Parser {
     number: u64,
     // One of the numbers is beyond 64 bits.
     over: bool,
-    // The line is none of the five, whatever follows.
+    // The line is none of the calls, whatever follows.
     other: bool,
 }
 
@@ -234,13 +237,26 @@ fn bare(letter: u8) -> Call
 }
 
 fn one(extended: bool, letter: u8, number: u64) -> Call
-    ensures { λ r. ⌜ r ≡ oneCall (is "R" letter) (is "F" letter) extended number ⌝ }
+    ensures { λ r. ⌜ r ≡ oneCall (is "R" letter) (is "F" letter) extended letter number ⌝ }
 {
     if letter == b'R' {
         return rate(number);
     }
     if letter == b'F' {
         return fill(extended, number);
+    }
+    if extended {
+        return added(letter, number);
+    }
+    Call::Other
+}
+
+// The lines of one number that `tap --ext` adds.
+fn added(letter: u8, number: u64) -> Call
+    ensures { λ r. ⌜ r ≡ addedCall (is "C" letter) number ⌝ }
+{
+    if letter == b'C' {
+        return cue(number);
     }
     Call::Other
 }
@@ -281,6 +297,15 @@ fn fill(extended: bool, length: u64) -> Call
 {
     if length <= longest(extended) {
         return Call::Fill(length as usize);
+    }
+    Call::Other
+}
+
+fn cue(position: u64) -> Call
+    ensures { λ r. ⌜ r ≡ cueCall position ⌝ }
+{
+    if position <= 255 {
+        return Call::Cue(position as u8);
     }
     Call::Other
 }

@@ -1,7 +1,7 @@
--- What the contract of `cue` tells of every set: its refusal is 01's cause, a refused cue is 0, and another lies in the digit's tone. A contract
--- that says less is refused here. And the example of 01's table: "12" at position 2. Assumes nothing.
-use Prim.Native.Nat.{ℕ, suc}
-use mathlib.Core.Path.{_≡_, refl}
+-- What the contract of `cue` tells of every set: its refusal is 01's cause, a refused cue is 0, and another lies in the digit's tone, which no smaller
+-- number does. A contract that says less is refused here. And the example of 01's table: "12" at position 2. Assumes nothing.
+use Prim.Native.Nat.{ℕ, suc, _≤_}
+use mathlib.Core.Path.{_≡_, refl, ap, _∙_}
 use mathlib.Core.Bool.{true}
 use lib.Dec.{lit≤}
 use Rattle.math.specs.Float.{ofNat}
@@ -24,17 +24,37 @@ use Rattle.set.specs.Sound.{sound}
 use Rattle.set.specs.Set.{freshSet, moved}
 use Rattle.set.proofs.Soundness.{fresh-sound, control-sound}
 use Rattle.set.proofs.Cases.{ones, unsound-81}
+use Rattle.cue.specs.declared.Refusal.{Refusal}
+use Rattle.cue.specs.declared.Refusal.the-variants.{Accepted, Unsound, Position}
 use Rattle.cue.specs.declared.Cued.{Cued}
-use Rattle.cue.specs.Cue.{cueRefusalNumber, cueCause}
+use Rattle.cue.specs.Cue.{cueRefusalNumber, cueCause, cuedBy, cued}
+use Rattle.cue.proofs.Cueing.{declined-cued}
 use Rattle.cue.proofs.cue.Reads as cue
 
+refusal-is : (c : Refusal) (m : ℕ) → cuedBy c m .refusal ≡ c
+refusal-is Accepted m = refl
+refusal-is Unsound m = refl
+refusal-is Position m = refl
+
 module _ (s : Set) (p : ℕ) (answer : Cued) (d : cue.Learnt tt (s, (p, tt)) answer (s, (p, tt))) where
+  -- the definition's answer
+  pub cue-is : answer ≡ cued s p
+  cue-is = d .0
+
+  refused : answer .refusal ≡ cueCause s p
+  unfolding cued
+  refused = ap (λ (c : Cued). c .refusal) cue-is ∙ refusal-is (cueCause s p) _
+
   pub cue-answers : (answer .refusal ≡ cueCause s p) × ((cueRefusalNumber (answer .refusal) ≡ 0 → ⊥) → answer .sample ≡ 0)
-  cue-answers = (d .refusal, λ declined. d .declined (rw (d .refusal) at declined))
+  unfolding cued
+  cue-answers = (refused, λ no. ap (λ (c : Cued). c .sample) (cue-is ∙ declined-cued (cueCause s p) _ (rw refused at no)))
 
   module _ (accepted : cueRefusalNumber (answer .refusal) ≡ 0) where
     pub in-tone : InDigitTone (digitsHeld (s .session)) (s .rate) p (answer .sample)
-    in-tone = d .inTone (rw (d .refusal) at accepted)
+    in-tone = d .1 accepted .inTone
+
+    pub no-smaller : (k : ℕ) → InDigitTone (digitsHeld (s .session)) (s .rate) p k → answer .sample ≤ k
+    no-smaller = d .1 accepted .least
 
     pub cue-number : answer .sample ≡ suc (in-tone .before)
     cue-number = in-tone .number

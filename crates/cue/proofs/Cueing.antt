@@ -1,29 +1,49 @@
--- An accepted cue: its numbers are in limits, and the middle of a digit's tone lies in that tone. The middle is a small number. Assumes nothing.
-use Prim.Native.Nat.{ℕ, _+_, _*_, _/_, _≤_, _<_}
-use native.Mathlib.Nat.{le-trans, mul-le-mul}
+-- An accepted cue: its numbers are in limits, and the sample after click, dial tone and the digits before is the first in the digit's tone.
+-- Assumes nothing.
+use Prim.Native.Nat.{ℕ, zero, suc, _+_, _≤_, _<_}
+use native.Mathlib.Nat.{le-of-lt}
 use native.Mathlib.Omega.{arith}
 use mathlib.Core.Path.{_≡_, refl}
 use mathlib.Core.Bool.{Bool, true, false, and-eq-true-iff}
 use lib.Dec.{lit≤, eqb}
 use lib.ListN.{length}
 use lib.Seq.{length-take-le}
-use borrow.Author.Tests.{ltb-true}
+use borrow.Author.Tests.{ltb-true, le-leb}
 use Rattle.math.specs.Float.{one}
 use Rattle.schedule.specs.Time.{samplesIn}
-use Rattle.schedule.specs.Length.{clickTime}
-use Rattle.passage.specs.Cue.{InDigitTone}
-use Rattle.passage.proofs.Cue.{cue-in-tone}
+use Rattle.schedule.specs.Length.{clickTime, diallingSamples}
+use Rattle.schedule.proofs.Lengths.{dialling-range}
+use Rattle.passage.specs.Lengths.{samplesOfDigits}
+use Rattle.passage.specs.Cue.{FirstInTone, firstInTone}
+use Rattle.passage.proofs.Cue.{first-sample, first-sample-is}
 use Rattle.session.specs.Session.{stateNumber, digitsHeld}
 use Rattle.set.specs.declared.Set.{Set}
 use Rattle.set.specs.Sound.{sound}
-use Rattle.cue.specs.Cue.{cueRefusalNumber, cuable, causeOfCue, cueCause}
+use Rattle.cue.specs.declared.Refusal.{Refusal}
+use Rattle.cue.specs.declared.Refusal.the-variants.{Accepted, Unsound, Position}
+use Rattle.cue.specs.Cue.{cueRefusalNumber, cuable, causeOfCue, cueCause, cuedBy}
 use Rattle.set.proofs.Ranges.{sound-digits, sound-rate}
 
-pub place-small : (p r : ℕ) → p < 76 → r ≤ 192000 → (20 * p + 5) * r ≤ 292800000
-place-small p r h k = le-trans (mul-le-mul (few p h) k) (lit≤ tt)
-  where
-    few : (p : ℕ) → p < 76 → 20 * p + 5 ≤ 1525
-    few p h = omega arith
+-- the samples of the digits before a digit, which the schedule tells where there are some; and at most
+pub digits-samples : (p r : ℕ) → (p ≡ 0 → ⊥) → p < 76 → 8000 ≤ r → r ≤ 192000 → diallingSamples r p ≡ samplesOfDigits r p
+unfolding diallingSamples
+digits-samples zero r some h lo hi = absurd (some refl)
+digits-samples (suc p) r some h lo hi = rw (le-leb 8000 r lo, le-leb r 192000 hi, le-leb (suc p) 76 (le-of-lt h))
+
+pub few-samples : (p r : ℕ) → p < 76 → 8000 ≤ r → r ≤ 192000 → samplesOfDigits r p ≤ 2918401
+few-samples zero r h lo hi = lit≤ tt
+few-samples (suc p) r h lo hi = dialling-range r lo hi (suc p) (le-of-lt h) .1
+
+-- an answer is by its refusal's number
+pub accepted-cued : (c : Refusal) (m : ℕ) → cueRefusalNumber c ≡ 0 → cuedBy c m ≡ record { refusal = c; sample = m }
+accepted-cued Accepted m e = refl
+accepted-cued Unsound m e = absurd (omega arith)
+accepted-cued Position m e = absurd (omega arith)
+
+pub declined-cued : (c : Refusal) (m : ℕ) → (cueRefusalNumber c ≡ 0 → ⊥) → cuedBy c m ≡ record { refusal = c; sample = 0 }
+declined-cued Accepted m e = absurd (e refl)
+declined-cued Unsound m e = refl
+declined-cued Position m e = refl
 
 module _ (s : Set) (p : ℕ) (accepted : cueRefusalNumber (cueCause s p) ≡ 0) where
   able : (sound s ≡ true) × (cuable s p ≡ true)
@@ -45,12 +65,21 @@ module _ (s : Set) (p : ℕ) (accepted : cueRefusalNumber (cueCause s p) ≡ 0) 
       let r = sound-rate s (able .0) in
       (omega (arith, below), r .0, r .1)
 
-  -- the middle of the digit's tone lies in it
-  pub in-tone : (m : ℕ) → length (s .session .digits .keys) ≡ 76
-      → m ≡ samplesIn clickTime (s .rate) + samplesIn one (s .rate) + (20 * p + 5) * s .rate / 100 + 1
-      → InDigitTone (digitsHeld (s .session)) (s .rate) p m
-  in-tone m keys is =
-      let few = sound-digits s (able .0) in
-      let held : length (digitsHeld (s .session)) ≡ s .session .digits .len = length-take-le (s .session .digits .len) (s .session .digits .keys) (omega arith) in
-      let within : p < length (digitsHeld (s .session)) = rw held below in
-      rw is (cue-in-tone (digitsHeld (s .session)) (s .rate) (in-limits .1) (in-limits .2) (omega arith) p within)
+  -- the digit's first sample is the one after click, dial tone and the digits before
+  module _ (keys : length (s .session .digits .keys) ≡ 76) where
+    held : length (digitsHeld (s .session)) ≡ s .session .digits .len
+    held =
+        let few = sound-digits s (able .0) in
+        length-take-le (s .session .digits .len) (s .session .digits .keys) (omega arith)
+
+    within : p < length (digitsHeld (s .session))
+    within = rw held below
+
+    few-held : length (digitsHeld (s .session)) ≤ 76
+    few-held = rw held (sound-digits s (able .0))
+
+    pub first-of-digit : FirstInTone (digitsHeld (s .session)) (s .rate) p (samplesIn clickTime (s .rate) + samplesIn one (s .rate) + samplesOfDigits (s .rate) p + 1)
+    first-of-digit = first-sample (digitsHeld (s .session)) (s .rate) (in-limits .1) (in-limits .2) few-held p within
+
+    pub first-of-digit-is : firstInTone (digitsHeld (s .session)) (s .rate) p ≡ samplesIn clickTime (s .rate) + samplesIn one (s .rate) + samplesOfDigits (s .rate) p + 1
+    first-of-digit-is = first-sample-is (digitsHeld (s .session)) (s .rate) (in-limits .1) (in-limits .2) few-held p within

@@ -1,9 +1,8 @@
--- 01, "Cue": for a digit position, a sample number in that digit's tone. Which one is free. And the causes for which it is declined.
+-- 01, "Cue", and 02, E2: for a digit position, the first sample number in that digit's tone. And the causes for which it is declined.
 use Prim.Native.Nat.{ℕ}
-use mathlib.Core.Path.{_≡_}
 use mathlib.Core.Bool.{Bool, true, false, _&&_}
 use lib.Dec.{ltb, eqb}
-use Rattle.passage.specs.Cue.{InDigitTone}
+use Rattle.passage.specs.Cue.{firstInTone}
 use Rattle.session.specs.Session.{stateNumber, digitsHeld}
 use Rattle.set.specs.declared.Set.{Set}
 use Rattle.set.specs.Sound.{sound}
@@ -29,8 +28,12 @@ causeOfCue true true = Accepted
 unfoldable pub cueCause : Set → ℕ → Refusal
 cueCause s p = causeOfCue (sound s) (cuable s p)
 
--- what holds of the answer: sample 0 where it is declined, else one in that digit's tone
-pub record CueIs (s : Set) (p : ℕ) (c : Cued) : Type 0 where
-  pub refusal : c .refusal ≡ cueCause s p
-  pub declined : (cueRefusalNumber (cueCause s p) ≡ 0 → ⊥) → c .sample ≡ 0
-  pub inTone : cueRefusalNumber (cueCause s p) ≡ 0 → InDigitTone (digitsHeld (s .session)) (s .rate) p (c .sample)
+-- sample 0 where it is declined
+abbrev pub cuedBy : Refusal → ℕ → Cued
+cuedBy Accepted m = record { refusal = Accepted; sample = m }
+cuedBy Unsound m = record { refusal = Unsound; sample = 0 }
+cuedBy Position m = record { refusal = Position; sample = 0 }
+
+-- 02, E2: "the cue now gives the first sample of that digit's tone"
+unfoldable pub cued : Set → ℕ → Cued
+cued s p = cuedBy (cueCause s p) (firstInTone (digitsHeld (s .session)) (s .rate) p)

@@ -1,11 +1,14 @@
-// The cue: for a digit of the call, a sample in that digit's tone, so that a light can be set to it.
+// The cue: for a digit of the call, the first sample of that digit's tone, so that a light can be set to it.
 use set::Set;
 ghost use mathlib.Core.Path.{_≡_};
-ghost use Prim.Native.Nat.{_+_, _*_, _/_, _<_, _≤_};
+ghost use Prim.Native.Nat.{_+_, _<_, _≤_};
 ghost use Rattle.math.specs.Float.{one};
 ghost use Rattle.schedule.specs.Time.{samplesIn, minRate, maxRate};
 ghost use Rattle.schedule.specs.Length.{clickTime};
-ghost use Rattle.cue.specs.Cue.{cueRefusalNumber, cueCause, CueIs};
+ghost use Rattle.passage.specs.Lengths.{samplesOfDigits};
+ghost use Rattle.passage.specs.Cue.{FirstInTone};
+ghost use Rattle.session.specs.Session.{digitsHeld};
+ghost use Rattle.cue.specs.Cue.{cueRefusalNumber, cueCause, cued};
 
 // Why a cue is declined, if it is.
 pub enum Refusal {
@@ -32,16 +35,26 @@ impl Refusal {
     }
 }
 
-// The middle of a digit's tone: 0.05 s into it.
+// How many samples of Dialling come before a digit's: none, or those of the digits before it.
+fn samples_of_digits(position: u32, rate: u32) -> u64
+    requires { ⌜ (position < 76) × (minRate ≤ rate) × (rate ≤ maxRate) ⌝ }
+    ensures { λ n. ⌜ n ≡ samplesOfDigits rate position ⌝ }
+{
+    if position == 0 {
+        return 0;
+    }
+    schedule::dialling_samples(position as u64, rate)
+}
+
+// The sample after the click, the dial tone and the digits before.
 fn cue_sample(position: u32, rate: u32) -> u64
     requires { ⌜ (position < 76) × (minRate ≤ rate) × (rate ≤ maxRate) ⌝ }
-    ensures { λ m. ⌜ m ≡ samplesIn clickTime rate + samplesIn one rate + (20 * position + 5) * rate / 100 + 1 ⌝ }
+    ensures { λ m. ⌜ m ≡ samplesIn clickTime rate + samplesIn one rate + samplesOfDigits rate position + 1 ⌝ }
 {
     let click = schedule::stage_samples_for(stage::OFF_HOOK_S, rate);
     let tone = schedule::stage_samples_for(stage::DIAL_TONE_S, rate);
-    let wide = rate as u64;
-    let place = (20 * (position as u64) + 5) * wide / 100;
-    click + tone + place + 1
+    let digits = samples_of_digits(position, rate);
+    click + tone + digits + 1
 }
 
 fn cue_cause(set: Set, position: u32) -> Refusal
@@ -59,9 +72,10 @@ fn cue_cause(set: Set, position: u32) -> Refusal
     Refusal::Unsound
 }
 
-// A sample number, from 1 in the whole overture, in the tone of the digit at a position.
+// The first sample number, from 1 in the whole overture, in the tone of the digit at a position.
 pub fn cue(set: Set, position: u32) -> Cued
-    ensures { λ c. ⌜ CueIs set position c ⌝ }
+    ensures { λ c. ⌜ c ≡ cued set position ⌝ }
+    ensures { λ c. ⌜ (cueRefusalNumber (c .refusal) ≡ 0 → FirstInTone (digitsHeld (set .session)) (set .rate) position (c .sample)) ⌝ }
 {
     let refusal = cue_cause(set, position);
     if refusal.number() == 0 {

@@ -11,7 +11,7 @@ use Rattle.reply.specs.declared.Reply.{Reply}
 use Rattle.reply.specs.Codes.{firstOf, secondOf}
 use Rattle.set.specs.Refusals.{refusalNumber}
 use Rattle.set.specs.Set.{made, typed, outbox, lapsed, forced, fill, buffer, rung}
-use Rattle.cue.specs.Cue.{CueIs, cueCause, cueRefusalNumber}
+use Rattle.cue.specs.Cue.{cueRefusalNumber, cued}
 use Rattle.gibbonplate.specs.Memory.{Memory, stored, loaded, kept}
 
 -- creation: a declined one leaves a fresh set too
@@ -48,8 +48,8 @@ pub record RingCall (before : Memory) (value number : ℕ) : Type 0 where
   pub ring : value ≡ rung (loaded before) .ring
 
 pub record CueCall (before : Memory) (position value number : ℕ) : Type 0 where
-  pub refusal : number ≡ cueRefusalNumber (cueCause (loaded before) position)
-  pub sample : CueIs (loaded before) position (record { refusal = cueCause (loaded before) position; sample = value })
+  pub refusal : number ≡ cueRefusalNumber (cued (loaded before) position .refusal)
+  pub sample : value ≡ cued (loaded before) position .sample
 
 -- C in command mode, D in data mode
 abbrev pub letter : Bool → ℕ

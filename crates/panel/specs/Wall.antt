@@ -18,8 +18,12 @@ use Rattle.set.specs.declared.Forced.{Forced}
 use Rattle.set.specs.declared.Filled.{Filled}
 use Rattle.set.specs.Refusals.{refusalNumber}
 use Rattle.set.specs.Set.{made, typed, lapsed, forced, fill}
+use Rattle.cue.specs.declared.Cued.{Cued}
+use Rattle.cue.specs.Cue.{cueRefusalNumber, cued}
 use Rattle.report.specs.declared.Report.{Report}
 use Rattle.report.specs.Report.{reportLine}
+use Rattle.panel.specs.declared.shown.Second.{Second}
+use Rattle.panel.specs.declared.shown.Second.the-variants as second
 use Rattle.panel.specs.declared.shown.Shown.{Shown}
 
 -- refusal (0 none), mode C or D, state, stage, m, two codes (0 none)
@@ -35,41 +39,47 @@ reportOf set refusal reply =
       second = secondOf reply;
     }
 
-abbrev pub shownOf : Set → ℕ → Reply → ℕ → Bool → Shown
-shownOf set refusal reply sent prints = record { set = set; report = reportOf set refusal reply; sent = sent; prints = prints }
+abbrev pub shownOf : Set → ℕ → Reply → Second → Bool → Shown
+shownOf set refusal reply second prints = record { set = set; report = reportOf set refusal reply; second = second; prints = prints }
 
 -- other lines leave the set and print nothing
 abbrev pub nothingShown : Set → Shown
-nothingShown s = shownOf s 0 reply.None 0 false
+nothingShown s = shownOf s 0 reply.None (second.Sent 0) false
 
 -- the set's answers: creation, forced data and a fill have no reply, and a typed byte alone sends
 abbrev pub madeShown : Made → Shown
-madeShown a = shownOf (a .set) (refusalNumber (a .refusal)) reply.None 0 true
+madeShown a = shownOf (a .set) (refusalNumber (a .refusal)) reply.None (second.Sent 0) true
 
 abbrev pub typedShown : Typed → Shown
-typedShown a = shownOf (a .set) (refusalNumber (a .refusal)) (a .reply) (a .sent) true
+typedShown a = shownOf (a .set) (refusalNumber (a .refusal)) (a .reply) (second.Sent (a .sent)) true
 
 abbrev pub lapsedShown : Lapsed → Shown
-lapsedShown a = shownOf (a .set) (refusalNumber (a .refusal)) (a .reply) 0 true
+lapsedShown a = shownOf (a .set) (refusalNumber (a .refusal)) (a .reply) (second.Sent 0) true
 
 abbrev pub forcedShown : Forced → Shown
-forcedShown a = shownOf (a .set) (refusalNumber (a .refusal)) reply.None 0 true
+forcedShown a = shownOf (a .set) (refusalNumber (a .refusal)) reply.None (second.Sent 0) true
 
-abbrev pub filledShown : Filled → Shown
-filledShown a = shownOf (a .set) (refusalNumber (a .refusal)) reply.None 0 true
+abbrev pub filledShown : ℕ → Filled → Shown
+filledShown length a = shownOf (a .set) (refusalNumber (a .refusal)) reply.None (second.Filled length) true
+
+-- a cue leaves the set
+abbrev pub cuedShown : Set → Cued → Shown
+cuedShown s a = shownOf s (cueRefusalNumber (a .refusal)) reply.None (second.Cued (a .sample)) true
 
 -- a call that asks for more room than there is counts as another line: no line that is read does
 abbrev pub ifRoom : Bool → Set → Shown → Shown
 ifRoom true s shown = shown
 ifRoom false s shown = nothingShown s
 
--- R,rate / T,byte,carrier / W,ns,carrier / F,length / D; with room for an outbox of so many bytes and for so many samples
+-- R,rate / T,byte,carrier / W,ns,carrier / F,length / D, and C,position of `tap --ext`; with room for an outbox of so many bytes and for
+-- so many samples
 abbrev pub shownAfter : (bytes samples : ℕ) → Set → Call → Shown
 shownAfter bytes samples s (call.Rate rate) = madeShown (made rate)
 shownAfter bytes samples s (call.Typed byte carrier outbox) = ifRoom (leb outbox bytes) s (typedShown (typed s byte carrier outbox))
 shownAfter bytes samples s (call.Lapse ns carrier) = lapsedShown (lapsed s ns carrier)
-shownAfter bytes samples s (call.Fill length) = ifRoom (leb length samples) s (filledShown (fill s length))
+shownAfter bytes samples s (call.Fill length) = ifRoom (leb length samples) s (filledShown length (fill s length))
 shownAfter bytes samples s call.ForcedData = forcedShown (forced s)
+shownAfter bytes samples s (call.Cue position) = cuedShown s (cued s position)
 shownAfter bytes samples s call.Other = nothingShown s
 
 -- the line printed

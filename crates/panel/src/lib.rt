@@ -18,7 +18,7 @@ mod shown;
 struct Panel {
     set: Set,
     parser: Parser,
-    // `tap --ext`: longer fills, and an outbox's length on a T line
+    // `tap --ext`: longer fills, an outbox's length on a T line, and further lines
     extended: bool,
     // `tap`: a second line for each answer
     bits: bool,
@@ -169,7 +169,7 @@ fn perform(p: Panel, call: Call, samples: &mut [f32], out: &mut [u8]) -> Panel
     let s = shown::after(p.set, call, &mut outbox, samples);
     let set = s.set;
     let first = shown::put_line(out, p.at, s);
-    let second = put_second(p.bits, out, first, call, s, &outbox, samples);
+    let second = put_second(p.bits, out, first, s, &outbox, samples);
     Panel {
         set,
         at: second,
@@ -181,7 +181,6 @@ fn put_second(
     bits: bool,
     out: &mut [u8],
     at: usize,
-    call: Call,
     shown: Shown,
     outbox: &[u8],
     samples: &[f32],
@@ -189,7 +188,7 @@ fn put_second(
     ensures { λ r. ⌜ (bits ≡ false → pageOf (now (out .exit)) r ≡ pageOf (now (out .entry)) at) ⌝ }
 {
     if bits & shown.prints {
-        return page::put_bits(out, at, call, shown, outbox, samples);
+        return page::put_bits(out, at, shown, outbox, samples);
     }
     at
 }

@@ -1,22 +1,53 @@
 // `tap`'s second line, written on a page that is a buffer.
+use crate::shown::Second;
 use crate::shown::Shown;
-use console::lines::Call;
 use set::Set;
 
-// The ring and the bytes sent, and after a fill the samples.
-pub fn put_bits(
+// What the call's second line tells.
+pub fn put_bits(out: &mut [u8], at: usize, shown: Shown, outbox: &[u8], samples: &[f32]) -> usize {
+    let set = shown.set;
+    let second = shown.second;
+    let k = put_second(out, at, set, second, outbox, samples);
+    text::put_byte(out, k, b'\n')
+}
+
+fn put_second(
     out: &mut [u8],
     at: usize,
-    call: Call,
-    shown: Shown,
+    set: Set,
+    second: Second,
     outbox: &[u8],
     samples: &[f32],
 ) -> usize {
-    let set = shown.set;
-    let mut k = put_ring(out, at, set);
-    k = put_sent(out, k, outbox, shown.sent);
-    k = put_filled(out, k, call, samples);
-    text::put_byte(out, k, b'\n')
+    match second {
+        Second::Sent(sent) => put_sent(out, at, set, outbox, sent),
+        Second::Filled(n) => put_filled(out, at, set, outbox, samples, n),
+        Second::Cued(sample) => put_cue(out, at, sample),
+    }
+}
+
+// The ring and the bytes sent.
+fn put_sent(out: &mut [u8], at: usize, set: Set, outbox: &[u8], sent: usize) -> usize {
+    let k = put_ring(out, at, set);
+    put_outbox(out, k, outbox, sent)
+}
+
+// These, and the samples.
+fn put_filled(
+    out: &mut [u8],
+    at: usize,
+    set: Set,
+    outbox: &[u8],
+    samples: &[f32],
+    n: usize,
+) -> usize {
+    let k = put_sent(out, at, set, outbox, 0);
+    put_samples(out, k, samples, n)
+}
+
+fn put_cue(out: &mut [u8], at: usize, sample: u64) -> usize {
+    let k = text::put(out, at, b"# cue=");
+    text::put_decimal(out, k, sample)
 }
 
 fn put_ring(out: &mut [u8], at: usize, set: Set) -> usize {
@@ -27,7 +58,7 @@ fn put_ring(out: &mut [u8], at: usize, set: Set) -> usize {
 }
 
 // The outbox's first `sent` bytes, in hexadecimal.
-fn put_sent(out: &mut [u8], at: usize, outbox: &[u8], sent: usize) -> usize {
+fn put_outbox(out: &mut [u8], at: usize, outbox: &[u8], sent: usize) -> usize {
     let from: usize = 0;
     let k = text::put(out, at, b" sent=");
     if sent == 0 {
@@ -47,13 +78,6 @@ fn put_bytes(out: &mut [u8], at: usize, bytes: &[u8]) -> usize {
         i += 1;
     }
     k
-}
-
-fn put_filled(out: &mut [u8], at: usize, call: Call, samples: &[f32]) -> usize {
-    if let Call::Fill(n) = call {
-        return put_samples(out, at, samples, n);
-    }
-    at
 }
 
 // The patterns of the first `n` samples up to 8, or a hash of more.

@@ -8,13 +8,23 @@ ghost use lib.Dec.{leb};
 ghost use lib.ListN.{length};
 ghost use Rattle.text.specs.Text.{pageOf, addOf};
 ghost use Rattle.set.specs.Set.{made, typed, lapsed, forced, fill};
-ghost use Rattle.panel.specs.Wall.{shownOf, nothingShown, madeShown, typedShown, lapsedShown, forcedShown, filledShown, ifRoom, shownAfter, lineOf};
+ghost use Rattle.cue.specs.Cue.{cued};
+ghost use Rattle.panel.specs.Wall.{shownOf, nothingShown, madeShown, typedShown, lapsedShown, forcedShown, filledShown, cuedShown, ifRoom, shownAfter, lineOf};
+
+// What `tap`'s second line tells of a call.
+pub enum Second {
+    // the ring, and how many bytes of the outbox were filled
+    Sent(usize),
+    // the ring, and how many samples were filled
+    Filled(usize),
+    // the cue's sample
+    Cued(u64),
+}
 
 pub struct Shown {
     pub set: Set,
     pub report: Report,
-    // how many bytes of the outbox were filled
-    pub sent: usize,
+    pub second: Second,
     // other lines than calls print nothing
     pub prints: bool,
 }
@@ -32,6 +42,7 @@ pub fn after(set: Set, call: Call, outbox: &mut [u8], samples: &mut [f32]) -> Sh
         Call::Lapse { ns, carrier } => lapsed(set, ns, carrier),
         Call::Fill(n) => filled(set, n, samples),
         Call::ForcedData => forced(set),
+        Call::Cue(position) => cued(set, position),
         Call::Other => nothing(set),
     }
 }
@@ -53,7 +64,7 @@ fn made(rate: u32) -> Shown
     let a = Set::new(rate);
     let set = a.set;
     let refusal = a.refusal;
-    show(set, refusal.number(), Reply::None, 0, true)
+    show(set, refusal.number(), Reply::None, Second::Sent(0), true)
 }
 
 // Into the outbox's first `n` bytes.
@@ -75,7 +86,7 @@ fn feed(set: Set, byte: u8, carrier: bool, outbox: &mut [u8]) -> Shown
     let refusal = a.refusal;
     let reply = a.reply;
     let sent = a.sent;
-    show(next, refusal.number(), reply, sent, true)
+    show(next, refusal.number(), reply, Second::Sent(sent), true)
 }
 
 fn lapsed(set: Set, ns: u64, carrier: bool) -> Shown
@@ -85,7 +96,7 @@ fn lapsed(set: Set, ns: u64, carrier: bool) -> Shown
     let next = a.set;
     let refusal = a.refusal;
     let reply = a.reply;
-    show(next, refusal.number(), reply, 0, true)
+    show(next, refusal.number(), reply, Second::Sent(0), true)
 }
 
 fn forced(set: Set) -> Shown
@@ -94,12 +105,12 @@ fn forced(set: Set) -> Shown
     let a = set.force_data_mode();
     let next = a.set;
     let refusal = a.refusal;
-    show(next, refusal.number(), Reply::None, 0, true)
+    show(next, refusal.number(), Reply::None, Second::Sent(0), true)
 }
 
 // The first `n` samples.
 fn filled(set: Set, n: usize, samples: &mut [f32]) -> Shown
-    ensures { λ r. ⌜ r ≡ ifRoom (leb n (length (now (samples .entry)))) set (filledShown (fill set n)) ⌝ }
+    ensures { λ r. ⌜ r ≡ ifRoom (leb n (length (now (samples .entry)))) set (filledShown n (fill set n)) ⌝ }
 {
     let from: usize = 0;
     if n > samples.len() {
@@ -109,13 +120,14 @@ fn filled(set: Set, n: usize, samples: &mut [f32]) -> Shown
 }
 
 fn fill(set: Set, samples: &mut [f32]) -> Shown
-    ensures { λ r. ⌜ r ≡ filledShown (fill set (length (now (samples .entry)))) ⌝ }
+    ensures { λ r. ⌜ r ≡ filledShown (length (now (samples .entry))) (fill set (length (now (samples .entry)))) ⌝ }
 {
     blank(samples);
+    let n = samples.len();
     let a = set.process_out(samples);
     let next = a.set;
     let refusal = a.refusal;
-    show(next, refusal.number(), Reply::None, 0, true)
+    show(next, refusal.number(), Reply::None, Second::Filled(n), true)
 }
 
 // A value that no call writes shows which samples a refused fill leaves alone.
@@ -127,14 +139,30 @@ fn blank(samples: &mut [f32]) {
     }
 }
 
+// The cue leaves the set as it was.
+fn cued(set: Set, position: u8) -> Shown
+    ensures { λ r. ⌜ r ≡ cuedShown set (cued set position) ⌝ }
+{
+    let a = cue::cue(set, position as u32);
+    let refusal = a.refusal;
+    let sample = a.sample;
+    show(
+        set,
+        refusal.number(),
+        Reply::None,
+        Second::Cued(sample),
+        true,
+    )
+}
+
 fn nothing(set: Set) -> Shown
     ensures { λ r. ⌜ r ≡ nothingShown set ⌝ }
 {
-    show(set, 0, Reply::None, 0, false)
+    show(set, 0, Reply::None, Second::Sent(0), false)
 }
 
-fn show(set: Set, refusal: u8, reply: Reply, sent: usize, prints: bool) -> Shown
-    ensures { λ r. ⌜ r ≡ shownOf set refusal reply sent prints ⌝ }
+fn show(set: Set, refusal: u8, reply: Reply, second: Second, prints: bool) -> Shown
+    ensures { λ r. ⌜ r ≡ shownOf set refusal reply second prints ⌝ }
 {
     let state = set.state();
     let report = Report {
@@ -149,7 +177,7 @@ fn show(set: Set, refusal: u8, reply: Reply, sent: usize, prints: bool) -> Shown
     Shown {
         set,
         report,
-        sent,
+        second,
         prints,
     }
 }

@@ -37,7 +37,7 @@ use Rattle.passage.proofs.Lasting.{Lasts, LastsWith, StageInvariant, la
 use Rattle.passage.proofs.Counted.{saturating-inc}
 
 -- ---- the first sample is at t = 0: digit 0, in tone
-no-time : (r : ℕ) → 8000 ≤ r → r ≤ 192000 → timeAt r 0 ≡ float.zero
+pub no-time : (r : ℕ) → 8000 ≤ r → r ≤ 192000 → timeAt r 0 ≡ float.zero
 unfolding ofInt ofBits
 no-time r lo hi =
     div-by binary64 (ofNat 0) (ofNat r) 0 r 1 (pow-pos 0) pos (nat-value 0 (lit≤ tt)) (rate-value r hi)
@@ -46,11 +46,11 @@ no-time r lo hi =
     pos : 0 < r
     pos = omega arith
 
-digit-first : digitAt float.zero ≡ 0
+pub digit-first : digitAt float.zero ≡ 0
 unfolding digitAt floorOf div ofBits
 digit-first = refl
 
-tone-first : inTone float.zero ≡ true
+pub tone-first : inTone float.zero ≡ true
 unfolding inTone digitAt floorOf sub mul div lt ofInt ofBits
 tone-first = refl
 

@@ -110,7 +110,7 @@ module _ (digits : List ℕ) (r : ℕ) (lo : 8000 ≤ r) (hi : r ≤ 192000) (fe
   stage-at k j h = ap stageOf (after-entry k j) ∙ stage-lasts k .stays j h
 
   -- up to a stage's last sample, none is of a stage after it
-  not-after : (k : Stage) → stageNumber k ≤ 9 → (j : ℕ) → j < samplesBefore (nextStage k) r (length digits)
+  pub not-after : (k : Stage) → stageNumber k ≤ 9 → (j : ℕ) → j < samplesBefore (nextStage k) r (length digits)
       → stageNumber (stageOf (after j (fresh digits r) digits r)) ≤ stageNumber k
   not-after k h j l =
       let some = stage-some r lo hi (length digits) few k h in

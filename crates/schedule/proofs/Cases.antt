@@ -4,7 +4,7 @@ use mathlib.Core.Path.{_≡_, refl, sym, subst, _∙_}
 use mathlib.Core.Logic.{inl, inr}
 use mathlib.Core.Bool.{Bool, true, false, not, true≢false}
 use Prim.Native.Nat.{ℕ, zero, suc, _*_, _^_, _≤_, _<_}
-use native.Mathlib.Nat.{le-of-eq, le-of-lt, le-antisymm, lt-of-not-le, eq-or-lt-of-le, le-of-suc-le-suc, zero-lt-suc}
+use native.Mathlib.Nat.{le-of-eq, le-of-lt, lt-of-not-le, eq-or-lt-of-le, le-of-suc-le-suc, zero-lt-suc}
 use native.Mathlib.Omega.{arith}
 use lib.Dec.{T, ltb, ltb→lt, nltb→le, lit<, lit≤}
 use lib.Ieee.{sub, mul, div, lt, ofInt, ofBits}
@@ -14,7 +14,7 @@ use Rattle.schedule.specs.Time.{timeAt, samplesIn}
 use Rattle.schedule.specs.Dialling.{digitAt, inTone}
 use Rattle.schedule.specs.Length.{clickTime, diallingLength}
 use Rattle.schedule.proofs.Digits.{digit-late, digit-past, in-tone, in-gap}
-use Rattle.schedule.proofs.Lengths.{dialling-none, dialling-ends, dialling-near}
+use Rattle.schedule.proofs.Lengths.{dialling-none, dialling-there, dialling-after}
 
 -- R(0.05) = 400
 pub click-at-8000 : samplesIn clickTime 8000 ≡ 400
@@ -34,18 +34,10 @@ unfolding digitAt floorOf div ofInt ofBits
 at-4800 = refl
 
 pub two-digits-at-8000 : diallingLength 8000 2 ≡ 3200
-two-digits-at-8000 =
-    let near = dialling-near 8000 (lit≤ tt) (lit≤ tt) 2 (lit≤ tt) in
-    let ends = dialling-ends 8000 (lit≤ tt) (lit≤ tt) 2 (lit≤ tt) (lit< tt) in
-    le-antisymm (le-of-suc-le-suc (lt-of-not-le (λ (g : 3201 ≤ diallingLength 8000 2). absurd (omega (arith, at-3200, ends .before 3200 (lit≤ tt) g))))) (omega arith)
+two-digits-at-8000 = dialling-there 8000 (lit≤ tt) (lit≤ tt) 2 (lit≤ tt) (lit< tt) 3200 (lit≤ tt) (lit< tt) (le-of-eq (sym at-3200))
 
 pub three-digits-at-8000 : diallingLength 8000 3 ≡ 4801
-three-digits-at-8000 = go (diallingLength 8000 3) (dialling-near 8000 (lit≤ tt) (lit≤ tt) 3 (lit≤ tt)) (dialling-ends 8000 (lit≤ tt) (lit≤ tt) 3 (lit≤ tt) (lit< tt) .reached)
-  where
-    go : (m : ℕ) → (24000 ≤ 5 * m) × (5 * m ≤ 24005) → 3 ≤ digitAt (timeAt 8000 m) → m ≡ 4801
-    go m near reached =
-        let past : m ≡ 4800 → ⊥ = λ e. omega (arith, at-4800, subst (λ (z : ℕ). 3 ≤ digitAt (timeAt 8000 z)) e reached) in
-        omega arith
+three-digits-at-8000 = dialling-after 8000 (lit≤ tt) (lit≤ tt) 3 (lit≤ tt) (lit< tt) 4800 (lit≤ tt) (lit< tt) (omega (arith, at-4800))
 
 -- ---- the second digit sounds for 801 samples: those that 1,600 to 2,400 samples of the stage come before
 -- the pair that a sample is made with, after k samples, is the second digit's tone
@@ -87,3 +79,7 @@ second-digit-only k most s = (from k most (s .0), le-of-suc-le-suc (lt-of-not-le
           | inl e ↦ omega (arith, s .0, subst (λ (z : ℕ). digitAt (timeAt 8000 z) ≡ 2) e at-3200)
           | inr w ↦ omega (arith, s .0, digit-past 8000 (lit≤ tt) (lit≤ tt) k (omega arith) (le-of-lt most) 2 (lit≤ tt) (omega arith))
         ]
+
+-- ---- so the first digit and its gap have the 1,600 before that: 02, E2
+pub one-digit-at-8000 : diallingLength 8000 1 ≡ 1600
+one-digit-at-8000 = dialling-there 8000 (lit≤ tt) (lit≤ tt) 1 (lit≤ tt) (lit< tt) 1600 (lit≤ tt) (lit< tt) (le-of-eq (sym (at-1600 .0)))

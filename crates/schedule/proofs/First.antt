@@ -1,7 +1,7 @@
 -- `firstFrom` finds the first number at which a count is large enough; and a count that keeps pace with b / a gets there within one of b / a. Assumes nothing.
-use mathlib.Core.Path.{_≡_, refl, sym, subst}
+use mathlib.Core.Path.{_≡_, refl, sym, subst, _∙_}
 use mathlib.Core.Logic.{inl, inr}
-use mathlib.Core.Bool.{Bool, true, false, not}
+use mathlib.Core.Bool.{Bool, true, false, not, true≢false}
 use Prim.Native.Nat.{ℕ, zero, suc, _+_, _*_, _≤_, _<_}
 use native.Mathlib.Nat.{le-refl, le-trans, le-of-eq, le-suc, eq-or-lt-of-le, add-zero}
 use native.Mathlib.Omega.{arith}
@@ -49,3 +49,13 @@ first-near count N a b K (suc zero) early late f l = (late 1 (f .some) l (f .rea
 first-near count N a b K (suc (suc n)) early late f l =
     let h = early (suc n) (omega arith) (omega arith) (f .before (suc n) (omega arith) (le-refl (suc (suc n)))) in
     (late (suc (suc n)) (f .some) l (f .reached), omega arith)
+
+-- ---- a number at which p holds, and at none before it, is what `firstFrom` finds
+pub first-is : (p : ℕ → Bool) (k : ℕ) (b : Bool) (n m : ℕ) → p n ≡ b → n ≤ m → m ≤ n + k → p m ≡ true → ((j : ℕ) → n ≤ j → j < m → p j ≡ false) → firstFrom p k b n ≡ m
+unfolding firstFrom
+first-is p zero b n m e l h holds before = omega arith
+first-is p (suc k) true n m e l h holds before = elim (eq-or-lt-of-le l) [ inl q ↦ q | inr w ↦ absurd (true≢false (sym e ∙ before n (le-refl n) w)) ]
+first-is p (suc k) false n m e l h holds before = elim (eq-or-lt-of-le l) [
+  | inl q ↦ absurd (true≢false (sym holds ∙ subst (λ (z : ℕ). p z ≡ false) q e))
+  | inr w ↦ first-is p k (p (suc n)) (suc n) m refl w (omega arith) holds (λ j i g. before j (le-trans (le-suc n) i) g)
+]

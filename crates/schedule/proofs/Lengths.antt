@@ -1,7 +1,7 @@
 -- How long the stages are: Dialling and the stages of bits end at the first sample that 01 names, and each stage has 1 sample or more and a bound that its count can hold. Assumes nothing.
-use mathlib.Core.Path.{_≡_, refl}
+use mathlib.Core.Path.{_≡_, refl, subst}
 use Prim.Native.Nat.{ℕ, zero, suc, _+_, _*_, _^_, _≤_, _<_}
-use native.Mathlib.Nat.{le-trans, lt-of-le-of-lt, lt-of-not-le, not-le-of-lt, le-of-suc-le-suc, mul-le-mul, zero-lt-suc}
+use native.Mathlib.Nat.{le-trans, le-antisymm, lt-of-le-of-lt, lt-of-not-le, not-le-of-lt, le-of-suc-le-suc, mul-le-mul, zero-lt-suc}
 use native.Mathlib.Omega.{arith}
 use lib.Dec.{lit<, lit≤}
 use Rattle.math.specs.Float.{one}
@@ -45,6 +45,23 @@ module _ (r : ℕ) (lo : 8000 ≤ r) (hi : r ≤ 192000) where
     where
       early : (n : ℕ) → 1 ≤ n → n ≤ 2 ^ 32 → digitAfter r n < suc d → 5 * n ≤ suc d * r
       early n some most h = le-of-suc-le-suc (lt-of-not-le (λ (g : suc (suc d * r) ≤ 5 * n). not-le-of-lt h (digit-past r lo hi n some most (suc d) D g)))
+
+  -- so at d * r / 5 rounded down, if i >= d there, and one sample later if not
+  module _ (d : ℕ) (D : d ≤ 76) (P : 0 < d) (n : ℕ) (most : 5 * n ≤ d * r) (least : d * r < 5 * n + 5) where
+    pub dialling-there : d ≤ digitAfter r n → diallingLength r d ≡ n
+    dialling-there h =
+        let near = dialling-near d D in
+        let ends = dialling-ends d D P in
+        let some : 1 ≤ n = omega (arith, mul-le-mul P lo) in
+        le-antisymm (le-of-suc-le-suc (lt-of-not-le (λ (g : suc n ≤ diallingLength r d). not-le-of-lt (ends .before n some g) h))) (omega arith)
+
+    pub dialling-after : digitAfter r n < d → diallingLength r d ≡ n + 1
+    dialling-after h = go (diallingLength r d) (dialling-near d D) (dialling-ends d D P .reached)
+      where
+        go : (m : ℕ) → (d * r ≤ 5 * m) × (5 * m ≤ d * r + 5) → d ≤ digitAfter r m → m ≡ n + 1
+        go m near reached =
+            let past : m ≡ n → ⊥ = λ e. not-le-of-lt h (subst (λ (z : ℕ). d ≤ digitAfter r z) e reached) in
+            omega arith
 
   -- ---- the stages of bits
   bits-first : (N : ℕ) → N ≤ 300 → Reaches (bitsAfter r) N (bitsLength r N) × (bitsLength r N ≤ 1000001)

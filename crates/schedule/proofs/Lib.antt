@@ -8,4 +8,5 @@ pub mod SymbolPhase
 pub mod First
 pub mod Lengths
 pub mod Total
+pub mod Edges
 pub mod Cases

@@ -1,11 +1,11 @@
 -- 01, "Stages": the samples of each of the stages 1 to 9, and T, their sum, for d digits at the rate r.
 use Prim.Native.Nat.{ℕ, zero, suc, _+_}
-use mathlib.Core.Bool.{Bool, true, false}
+use mathlib.Core.Bool.{Bool, true, false, cond, _&&_}
 use mathlib.Core.List.{List, [], _∷_}
 use lib.Dec.{leb}
 use lib.Ieee.{Float}
 use Rattle.math.specs.Float.{f64, ofNat, one}
-use Rattle.schedule.specs.Time.{timeAt, samplesIn}
+use Rattle.schedule.specs.Time.{minRate, maxRate, timeAt, samplesIn}
 use Rattle.schedule.specs.Dialling.{digitAt}
 use Rattle.schedule.specs.Symbols.{symbolStep, doneAfter}
 
@@ -36,6 +36,14 @@ bitsLength r N = firstFrom (λ n. leb N (doneAfter (symbolStep r) n)) 1000000 (l
 unfoldable pub diallingLength : ℕ → ℕ → ℕ
 diallingLength r zero = 1
 diallingLength r (suc d) = firstFrom (λ n. leb (suc d) (digitAt (timeAt r n))) 4000000 (leb (suc d) (digitAt (timeAt r 1))) 1
+
+-- a dial line has no more digits
+abbrev pub maxDigits : ℕ
+maxDigits = 76
+
+-- the same at 01's rates and for as many digits as a call may have, and 0 elsewhere
+unfoldable pub diallingSamples : ℕ → ℕ → ℕ
+diallingSamples r d = cond ((leb minRate r && leb r maxRate) && leb d maxDigits) (diallingLength r d) 0
 
 -- the bits of each payload, ten a byte: CICICI, CMJMCMJM, CJCJCJ, and thirty bytes
 abbrev pub ciBits : ℕ

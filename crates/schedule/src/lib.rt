@@ -1,16 +1,21 @@
 // The clocks of an overture: a stage's seconds and its end in samples, and what digit, ring, sign
 // or bit a time belongs to. There is no oscillator in here.
 ghost use mathlib.Core.Path.{_≡_};
-ghost use Rattle.schedule.specs.Time.{timeAt, samplesIn, saturatingInc};
+ghost use Prim.Native.Nat.{_≤_};
+ghost use Rattle.schedule.specs.Time.{minRate, maxRate, timeAt, samplesIn, saturatingInc};
 ghost use Rattle.schedule.specs.Dialling.{digitAt, inTone};
 ghost use Rattle.schedule.specs.Ringback.{ringAt, ringTime, ringTone};
 ghost use Rattle.schedule.specs.Ansam.{signAt};
 ghost use Rattle.schedule.specs.Symbols.{symbolStep, symbolEnds, nextPhase};
+ghost use Rattle.schedule.specs.Length.{maxDigits, diallingLength, diallingSamples};
 
 // The rates of a set.
 pub const MIN_RATE: u32 = 8_000;
 
 pub const MAX_RATE: u32 = 192_000;
+
+// No call has more digits.
+pub const MAX_DIGITS: u64 = 76;
 
 const DTMF_TONE_S: f64 = 0.1;
 
@@ -74,6 +79,32 @@ pub fn dialling_phase(t: f64) -> DiallingPhase
         digit,
         tone: phase_t < DTMF_TONE_S,
     }
+}
+
+// Where the digits end: the place by whole numbers, or the sample after it. 0.2 is no f64, so the digit there decides.
+fn dialling_end(digits: u64, rate: u32) -> u64
+    requires { ⌜ (minRate ≤ rate) × (rate ≤ maxRate) × (digits ≤ maxDigits) ⌝ }
+    ensures { λ n. ⌜ n ≡ diallingLength rate digits ⌝ }
+{
+    if digits == 0 {
+        return 1;
+    }
+    let place = digits * rate as u64 / 5;
+    let phase = dialling_phase(seconds(place as u32, rate));
+    if phase.digit < digits {
+        return place + 1;
+    }
+    place
+}
+
+// How many samples so many digits are; 0 for a rate or a number of digits that no call has.
+pub fn dialling_samples(digits: u64, rate: u32) -> u64
+    ensures { λ n. ⌜ n ≡ diallingSamples rate digits ⌝ }
+{
+    if ((rate >= MIN_RATE) & (rate <= MAX_RATE)) & (digits <= MAX_DIGITS) {
+        return dialling_end(digits, rate);
+    }
+    0
 }
 
 // Whether the cadence is in tone, time seconds into its ring.

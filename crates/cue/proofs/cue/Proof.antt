@@ -1,8 +1,8 @@
 -- `cue::cue` meets its contract: by its cause. Assumes nothing.
-use mathlib.Core.Path.{_≡_, refl}
+use mathlib.Core.Path.{_≡_, refl, sym, ap, _∙_}
 use lib.ListN.{length}
-use Rattle.cue.specs.Cue.{cueRefusalNumber, cueCause}
-use Rattle.cue.proofs.Cueing.{in-limits, in-tone}
+use Rattle.cue.specs.Cue.{cueRefusalNumber, cueCause, cuedBy, cued}
+use Rattle.cue.proofs.Cueing.{in-limits, accepted-cued, declined-cued, first-of-digit, first-of-digit-is}
 use borrow.Author.Needs.{needs}
 use Rattle.cue.proofs.cue.Statement.{statement}
 use Rattle.cue.proofs.cue.Tie as tie
@@ -19,23 +19,23 @@ cue-sample-requires c κs =
     in-limits (a .set) (a .position) (rw (← c .before .before .cue-cause .ensures, ← c .before .number .ensures) (c .if1 .taken))
 
 returns : tie.Need-returns
+unfolding cued
 returns c =
     let a = c .before .before .before .before .args in
-    let zero : cueRefusalNumber (cueCause (a .set) (a .position)) ≡ 0 = rw (← c .before .before .before .cue-cause .ensures, ← c .before .before .number .ensures) (c .before .if1 .taken) in
-    let keys : length (a .set .session .digits .keys) ≡ 76 = search needs in
-    record {
-      refusal = c .before .before .before .cue-cause .ensures;
-      declined = λ d. absurd (d zero);
-      inTone = λ _. in-tone (a .set) (a .position) zero _ keys (c .cue-sample .ensures);
-    }
+    let cause = c .before .before .before .cue-cause .ensures in
+    let zero : cueRefusalNumber (cueCause (a .set) (a .position)) ≡ 0 = rw (← cause, ← c .before .before .number .ensures) (c .before .if1 .taken) in
+    let keys : length (a .set .session .digits .keys) ≡ 76 = search needs in (
+      rw (cause, c .cue-sample .ensures, accepted-cued _ _ zero, first-of-digit-is (a .set) (a .position) zero keys),
+      λ _. rw (c .cue-sample .ensures) (first-of-digit (a .set) (a .position) zero keys),
+    )
 
 returns-2 : tie.Need-returns-2
+unfolding cued
 returns-2 c =
-    record {
-      refusal = c .before .before .cue-cause .ensures;
-      declined = λ _. refl;
-      inTone = λ zero. absurd (c .if1 .left (rw (c .before .number .ensures, c .before .before .cue-cause .ensures) zero));
-    }
+    let a = c .before .before .before .args in
+    let cause = c .before .before .cue-cause .ensures in
+    let declined : cueRefusalNumber (cueCause (a .set) (a .position)) ≡ 0 → ⊥ = λ zero. c .if1 .left (rw (c .before .number .ensures, cause) zero) in
+    (rw cause (sym (declined-cued _ _ declined)), λ zero. absurd (declined (rw (← cause) zero)))
 
 pub cue-spec : {M : Type 1} → statement M
 cue-spec =

@@ -1,7 +1,7 @@
 -- `cue_sample` meets its contract: its sums are small. Assumes nothing.
 use native.Mathlib.Omega.{arith}
 use Rattle.schedule.proofs.Lengths.{click-range, dial-tone-range}
-use Rattle.cue.proofs.Cueing.{place-small}
+use Rattle.cue.proofs.Cueing.{few-samples}
 use borrow.Author.Needs.{needs}
 use Rattle.cue.proofs.cue_sample.Statement.{statement}
 use Rattle.cue.proofs.cue_sample.Tie as tie
@@ -12,23 +12,17 @@ stage-samples-for-requires c κs = search needs
 stage-samples-for-requires-2 : tie.Need-stage-samples-for-requires-2
 stage-samples-for-requires-2 c κs = search needs
 
-mul-place : tie.Need-mul-place
-mul-place c = search needs
-
-add-place : tie.Need-add-place
-add-place c = search needs
-
-mul-place-2 : tie.Need-mul-place-2
-mul-place-2 c = omega (arith, place-small _ _ (c .before .before .pre .0) (c .before .before .pre .2))
+samples-of-digits-requires : tie.Need-samples-of-digits-requires
+samples-of-digits-requires c κs = search needs
 
 add-result : tie.Need-add-result
-add-result c = let p = c .before .before .pre in omega (arith, c .before .stage-samples-for .ensures, c .stage-samples-for2 .ensures, click-range _ (p .1) (p .2), dial-tone-range _ (p .1) (p .2))
+add-result c = let p = c .before .before .before .pre in omega (arith, c .before .before .stage-samples-for .ensures, c .before .stage-samples-for2 .ensures, click-range _ (p .1) (p .2), dial-tone-range _ (p .1) (p .2))
 
 add-result-2 : tie.Need-add-result-2
-add-result-2 c = let p = c .before .before .pre in omega (arith, c .before .stage-samples-for .ensures, c .stage-samples-for2 .ensures, click-range _ (p .1) (p .2), dial-tone-range _ (p .1) (p .2), place-small _ _ (p .0) (p .2))
+add-result-2 c = let p = c .before .before .before .pre in omega (arith, c .before .before .stage-samples-for .ensures, c .before .stage-samples-for2 .ensures, c .samples-of-digits .ensures, click-range _ (p .1) (p .2), dial-tone-range _ (p .1) (p .2), few-samples _ _ (p .0) (p .1) (p .2))
 
 add-result-3 : tie.Need-add-result-3
-add-result-3 c = let p = c .before .before .pre in omega (arith, c .before .stage-samples-for .ensures, c .stage-samples-for2 .ensures, click-range _ (p .1) (p .2), dial-tone-range _ (p .1) (p .2), place-small _ _ (p .0) (p .2))
+add-result-3 c = let p = c .before .before .before .pre in omega (arith, c .before .before .stage-samples-for .ensures, c .before .stage-samples-for2 .ensures, c .samples-of-digits .ensures, click-range _ (p .1) (p .2), dial-tone-range _ (p .1) (p .2), few-samples _ _ (p .0) (p .1) (p .2))
 
 returns : tie.Need-returns
 returns c = search needs
@@ -39,9 +33,7 @@ cue-sample-spec =
     (tie.spec
     stage-samples-for-requires
     stage-samples-for-requires-2
-    mul-place
-    add-place
-    mul-place-2
+    samples-of-digits-requires
     add-result
     add-result-2
     add-result-3

@@ -15,8 +15,8 @@ number-requires c κs = search needs
 returns : tie.Need-returns
 returns c =
     let s = c .before .before .load .ensures .0 in
-    let a = c .before .cue .ensures in
-    record { refusal = rw (c .number .ensures, a .refusal, s); sample = rw (← s, ← a .refusal) a }
+    let a = c .before .cue .ensures .0 in
+    record { refusal = rw (c .number .ensures, a, s); sample = rw (a, s) }
 
 pub gibbonplate-cue-in-spec : {M : Type 1} → statement M
 gibbonplate-cue-in-spec = tie.close (tie.spec load-requires cue-requires number-requires returns)

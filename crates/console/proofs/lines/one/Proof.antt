@@ -1,4 +1,4 @@
--- `console::lines::one` meets its contract: by the letter, R, F or another. Assumes nothing.
+-- `console::lines::one` meets its contract: by the letter, R, F or one that `tap --ext` adds. Assumes nothing.
 use borrow.Author.Needs.{needs}
 use borrow.Author.Tests.{eq-eqb, ne-eqb}
 use Rattle.console.specs.Lines.{oneCall}
@@ -19,9 +19,16 @@ returns-2 : tie.Need-returns-2
 unfolding oneCall
 returns-2 c = rw (ne-eqb _ _ (c .before .before .if1 .left), eq-eqb _ _ (c .before .if2 .taken)) (c .fill .ensures)
 
+added-requires : tie.Need-added-requires
+added-requires c κs = search needs
+
 returns-3 : tie.Need-returns-3
 unfolding oneCall
-returns-3 c = rw (ne-eqb _ _ (c .before .if1 .left), ne-eqb _ _ (c .if2 .left))
+returns-3 c = rw (ne-eqb _ _ (c .before .before .before .if1 .left), ne-eqb _ _ (c .before .before .if2 .left), c .before .if3 .taken) (c .added .ensures)
+
+returns-4 : tie.Need-returns-4
+unfolding oneCall
+returns-4 c = rw (ne-eqb _ _ (c .before .before .if1 .left), ne-eqb _ _ (c .before .if2 .left), c .if3 .left)
 
 pub one-spec : {M : Type 1} → statement M
-one-spec = tie.close (tie.spec rate-requires returns fill-requires returns-2 returns-3)
+one-spec = tie.close (tie.spec rate-requires returns fill-requires returns-2 added-requires returns-3 returns-4)

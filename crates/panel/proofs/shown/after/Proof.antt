@@ -33,6 +33,12 @@ enum-told c = search needs
 forced-requires : tie.Need-forced-requires
 forced-requires c κs = search needs
 
+enum-known-call-5 : tie.Need-enum-known-call-5
+enum-known-call-5 c = search needs
+
+cued-requires : tie.Need-cued-requires
+cued-requires c κs = search needs
+
 enum-told-2 : tie.Need-enum-told-2
 enum-told-2 c = search needs
 
@@ -61,7 +67,10 @@ returns-5 : tie.Need-returns-5
 returns-5 c = rw (c .before .enum-told .given .1) (c .forced .ensures)
 
 returns-6 : tie.Need-returns-6
-returns-6 c = rw (c .before .enum-told2 .given .1) (c .nothing .ensures)
+returns-6 c = rw (c .before .before .call5 .given .1) (c .cued .ensures)
+
+returns-7 : tie.Need-returns-7
+returns-7 c = rw (c .before .enum-told2 .given .1) (c .nothing .ensures)
 
 pub after-spec : {M : Type 1} → statement M
 after-spec =
@@ -77,6 +86,8 @@ after-spec =
     filled-requires
     enum-told
     forced-requires
+    enum-known-call-5
+    cued-requires
     enum-told-2
     nothing-requires
     returns
@@ -86,4 +97,5 @@ after-spec =
     same-length-2
     returns-4
     returns-5
-    returns-6)
+    returns-6
+    returns-7)

@@ -23,7 +23,7 @@ same-length : tie.Need-same-length
 same-length c = search needs
 
 returns : tie.Need-returns
-returns c = rw (c .show .ensures, c .before .number .ensures, c .before .before .before .before .before .process-out .ensures .0) (ap (λ (k : ℕ). filledShown (fill (c .before .before .before .before .before .before .before .before .before .before .before .before .args .set) k)) (c .before .before .before .before .before .before .before .before .before .blank .kept .0))
+returns c = rw (c .show .ensures, c .before .number .ensures, c .before .before .before .before .before .process-out .ensures .0) (ap (λ (k : ℕ). filledShown k (fill (c .before .before .before .before .before .before .before .before .before .before .before .before .args .set) k)) (c .before .before .before .before .before .before .before .before .before .blank .kept .0))
 
 pub fill-spec : {M : Type 1} → statement M
 fill-spec =

@@ -15,7 +15,7 @@ nothing-requires c κs = search needs
 returns : tie.Need-returns
 returns c =
     let a = c .before .before .before .args in
-    c .nothing .ensures ∙ no-room (a .set) (λ (k : ℕ). filledShown (fill (a .set) k)) (a .n) (now (a .samples)) (c .before .if1 .taken)
+    c .nothing .ensures ∙ no-room (a .set) (λ (k : ℕ). filledShown k (fill (a .set) k)) (a .n) (now (a .samples)) (c .before .if1 .taken)
 
 mul-fill : tie.Need-mul-fill
 mul-fill c = search needs
@@ -38,7 +38,7 @@ same-length c = search needs
 returns-2 : tie.Need-returns-2
 returns-2 c =
     let a = c .before .before .before .before .before .before .args in
-    c .before .before .fill .ensures ∙ front-lent (a .set) (λ (k : ℕ). filledShown (fill (a .set) k)) (a .n) (now (a .samples)) (c .before .before .before .before .if1 .left)
+    c .before .before .fill .ensures ∙ front-lent (a .set) (λ (k : ℕ). filledShown k (fill (a .set) k)) (a .n) (now (a .samples)) (c .before .before .before .before .if1 .left)
 
 pub filled-spec : {M : Type 1} → statement M
 filled-spec =

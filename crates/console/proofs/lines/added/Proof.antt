@@ -1,0 +1,20 @@
+-- `console::lines::added` meets its contract: by the letter, C or another. Assumes nothing.
+use borrow.Author.Needs.{needs}
+use borrow.Author.Tests.{eq-eqb, ne-eqb}
+use Rattle.console.specs.Lines.{addedCall}
+use Rattle.console.proofs.lines.added.Statement.{statement}
+use Rattle.console.proofs.lines.added.Tie as tie
+
+cue-requires : tie.Need-cue-requires
+cue-requires c κs = search needs
+
+returns : tie.Need-returns
+unfolding addedCall
+returns c = rw (eq-eqb _ _ (c .before .if1 .taken)) (c .cue .ensures)
+
+returns-2 : tie.Need-returns-2
+unfolding addedCall
+returns-2 c = rw (ne-eqb _ _ (c .if1 .left))
+
+pub added-spec : {M : Type 1} → statement M
+added-spec = tie.close (tie.spec cue-requires returns returns-2)

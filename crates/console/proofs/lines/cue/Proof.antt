@@ -1,0 +1,20 @@
+-- `console::lines::cue` meets its contract: by whether the position is above 255. Assumes nothing.
+use borrow.Author.Needs.{needs}
+use borrow.Author.Tests.{le-leb, lt-leb}
+use Rattle.console.specs.Lines.{cueCall, cueIf}
+use Rattle.console.proofs.lines.cue.Statement.{statement}
+use Rattle.console.proofs.lines.cue.Tie as tie
+
+cast-t3 : tie.Need-cast-t3
+cast-t3 c = search needs
+
+returns : tie.Need-returns
+unfolding cueCall cueIf
+returns c = rw (le-leb _ _ (c .if1 .taken))
+
+returns-2 : tie.Need-returns-2
+unfolding cueCall cueIf
+returns-2 c = rw (lt-leb _ _ (c .if1 .left))
+
+pub cue-spec : {M : Type 1} → statement M
+cue-spec = tie.close (tie.spec cast-t3 returns returns-2)
