@@ -12,7 +12,7 @@ use Rattle.ascii.specs.Front.{putIf, put, putLengthIf, putLength}
 use Rattle.reply.specs.Texts.{textOf}
 use Rattle.nco.specs.Lent.{lentSample, lentNco}
 use Rattle.set.specs.declared.Set.{Set}
-use Rattle.set.proofs.Answers.{new-answers, feed-answers, advance-time-answers, force-data-mode-answers, process-out-answers, ring-number-answers}
+use Rattle.set.proofs.Answers.{new-answers, feed-answers, feed-all-answers, advance-time-answers, force-data-mode-answers, process-out-answers, ring-number-answers}
 use Rattle.cue.proofs.Answers.{cue-answers}
 use Rattle.set.specs.declared.Refusal.{Refusal}
 use Rattle.set.specs.declared.Refusal.the-variants.{Accepted, Rate, Outbox, Length, Connected, Unsound}
@@ -60,6 +60,7 @@ answers s =
     record {
       creation = λ r. (tt, new-answers r);
       typing = λ byte carrier κs out. (tt, feed-answers s byte carrier κs out);
+      string = λ κs bytes carrier out codes. (tt, feed-all-answers s κs bytes carrier out codes);
       time = λ ns carrier. (tt, advance-time-answers s ns carrier);
       forcing = (tt, force-data-mode-answers s);
       filling = λ κs out. (tt, process-out-answers s κs out);
