@@ -39,8 +39,11 @@ codesBy s (byte ∷ bytes) carrier =
 
 -- ---- the call: of the set, the string, the carrier flag, the outbox and the code buffer
 -- more than 256 bytes give 8, then an outbox under four bytes for each byte or a code buffer under two gives 9
+abbrev pub causeByLengths : (ok : Bool) (n room places : ℕ) → Refusal
+causeByLengths ok n room places = causeOfString ok (ltb 256 n) (ltb room (4 * n) || ltb places (2 * n))
+
 unfoldable pub stringCause : Set → (n room places : ℕ) → Refusal
-stringCause s n room places = causeOfString (sound s) (ltb 256 n) (ltb room (4 * n) || ltb places (2 * n))
+stringCause s n room places = causeByLengths (sound s) n room places
 
 unfoldable pub typedAll : Set → List ℕ → Bool → (room places : ℕ) → TypedAll
 typedAll s bytes carrier room places =
