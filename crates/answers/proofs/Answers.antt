@@ -15,7 +15,7 @@ use Rattle.set.specs.declared.Set.{Set}
 use Rattle.set.proofs.Answers.{new-answers, feed-answers, feed-all-answers, advance-time-answers, force-data-mode-answers, process-out-answers, ring-number-answers}
 use Rattle.cue.proofs.Answers.{cue-answers}
 use Rattle.set.specs.declared.Refusal.{Refusal}
-use Rattle.set.specs.declared.Refusal.the-variants.{Accepted, Rate, Outbox, Length, Connected, Unsound}
+use Rattle.set.specs.declared.Refusal.the-variants.{Accepted, Rate, Outbox, Length, Connected, Unsound, StringLength, StringRoom}
 use Rattle.set.specs.Refusals.{refusalNumber}
 use Rattle.cue.specs.declared.Refusal as cueRefusal
 use Rattle.cue.specs.declared.Refusal.the-variants as cue
@@ -48,6 +48,8 @@ never-4 Outbox e = omega arith
 never-4 Length e = omega arith
 never-4 Connected e = omega arith
 never-4 Unsound e = omega arith
+never-4 StringLength e = omega arith
+never-4 StringRoom e = omega arith
 
 cue-never-4 : (refusal : cueRefusal.Refusal) → cueRefusalNumber refusal ≡ 4 → ⊥
 cue-never-4 cue.Accepted e = omega arith

@@ -66,7 +66,7 @@ pub extern "C" fn gibbonplate_feed_all_in(
     longs: &mut [u64; 5],
     counts: &mut [u32; 4],
     reals: &mut [f64; 6],
-    marks: &mut [u8; 8],
+    marks: &mut [u8; 9],
     line: &mut [u8; 80],
     keys: &mut [u8; 76],
     bytes: &[u8],
