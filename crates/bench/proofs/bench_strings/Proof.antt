@@ -7,10 +7,10 @@ use Rattle.bench.proofs.bench_strings.Statement.{statement}
 use Rattle.bench.proofs.bench_strings.Tie as tie
 
 abbrev Inv-loop : tie.InvT-loop
-Inv-loop rate digits skip turns s₀ outbox₀ codes₀ sent₀ i₀ s outbox codes sent i = (length outbox ≡ 44) × (length codes ≡ 22)
+Inv-loop rate digits skip turns s₀ outbox₀ codes₀ sent₀ i₀ t12 s outbox codes sent i = (length outbox ≡ 44) × (length codes ≡ 22)
 
 abbrev μ-loop : tie.MeasureT-loop
-μ-loop rate digits skip turns s₀ outbox₀ codes₀ sent₀ i₀ s outbox codes sent i = turns - i
+μ-loop rate digits skip turns s₀ outbox₀ codes₀ sent₀ i₀ t12 s outbox codes sent i = turns - i
 
 played-requires : tie.Need-played-requires Inv-loop μ-loop
 played-requires c κs = search needs
@@ -23,6 +23,9 @@ slice-aggregate-feed-all c = search needs
 
 slice-aggregate-feed-all-2 : tie.Need-slice-aggregate-feed-all-2 Inv-loop μ-loop
 slice-aggregate-feed-all-2 c = search needs
+
+slice-aggregate-feed-all-3 : tie.Need-slice-aggregate-feed-all-3 Inv-loop μ-loop
+slice-aggregate-feed-all-3 c = search needs
 
 feed-all-requires : tie.Need-feed-all-requires Inv-loop μ-loop
 feed-all-requires c κs = search needs
@@ -49,6 +52,7 @@ bench-strings-spec =
     loop-holds
     slice-aggregate-feed-all
     slice-aggregate-feed-all-2
+    slice-aggregate-feed-all-3
     feed-all-requires
     add-i
     loop-less
