@@ -78,11 +78,11 @@ pub extern "C" fn gibbonplate_feed_all_in(
     ensures { λ r. ⌜ StringCall (memory (now (longs .entry)) (now (counts .entry)) (now (reals .entry)) (now (marks .entry)) (now (line .entry)) (now (keys .entry))) (memory (now (longs .exit)) (now (counts .exit)) (now (reals .exit)) (now (marks .exit)) (now (line .exit)) (now (keys .exit))) (now (bytes .entry)) carrier (now (out .entry)) (now (out .exit)) (now (codes .entry)) (now (codes .exit)) (now (sent .exit)) r ⌝ }
 {
     let set = memory::load(longs, counts, reals, marks, line, keys);
-    let typed = set.feed_all(bytes, carrier, out, codes);
-    let after = typed.set;
-    let refusal = typed.refusal;
+    let all = set.feed_all(bytes, carrier, out, codes);
+    let after = all.set;
+    let refusal = all.refusal;
     let number = refusal.number();
-    *sent = typed.sent;
+    *sent = all.sent;
     memory::keep(number, after, longs, counts, reals, marks, line, keys);
     number
 }
