@@ -109,7 +109,8 @@ module _ (s : Set) (r : Bool) (d : is-sound.Learnt tt (s, tt) r (s, tt)) where
   pub string-answers : (κs : Lfts 3) (bytes : RefT (List ℕ)) (carrier : Bool) (out codes : RefT (List ℕ))
       → feed-all.Asked κs (s, (bytes, (carrier, (out, (codes, tt)))))
       × ((left codesLeft : List ℕ) (answer : TypedAll)
-      → feed-all.Learnt κs (s, (bytes, (carrier, (out, (codes, tt))))) answer (s, (bytes, (carrier, (at-last out left, (at-last codes codesLeft, tt)))))
+      → feed-all.Learnt κs (s, (bytes, (carrier, (out, (codes, tt))))) answer
+      (s, (bytes, (carrier, (at-last out left, (at-last codes codesLeft, tt)))))
       → StringByCause s (stringCause s (length (now bytes)) (length (now out)) (length (now codes)))
       (stringEvent (now bytes) carrier (now out) left (now codes) codesLeft answer))
   string-answers = told .string

@@ -55,7 +55,8 @@ pub record Answers (s : Set) : Type 0 where
   pub string : (κs : Lfts 3) (bytes : RefT (List ℕ)) (carrier : Bool) (out codes : RefT (List ℕ))
       → feed-all.Asked κs (s, (bytes, (carrier, (out, (codes, tt)))))
       × ((left codesLeft : List ℕ) (answer : TypedAll)
-      → feed-all.Learnt κs (s, (bytes, (carrier, (out, (codes, tt))))) answer (s, (bytes, (carrier, (at-last out left, (at-last codes codesLeft, tt)))))
+      → feed-all.Learnt κs (s, (bytes, (carrier, (out, (codes, tt))))) answer
+      (s, (bytes, (carrier, (at-last out left, (at-last codes codesLeft, tt)))))
       → StringByCause s (stringCause s (length (now bytes)) (length (now out)) (length (now codes)))
       (stringEvent (now bytes) carrier (now out) left (now codes) codesLeft answer))
   pub time : (ns : ℕ) (carrier : Bool)

@@ -121,20 +121,25 @@ fn put_string(page: &mut [u8], at: usize, set: Set, string: &[u8], n: usize, m: 
     let refusal = answer.refusal;
     let mut k = put_number(page, at, b" string ", refusal.number() as u64);
     k = put_number(page, k, b" sent ", answer.sent as u64);
-    k = put_word(page, k, &outbox);
+    k = put_sends(page, k, &outbox);
     put_codes(page, k, codes)
 }
 
+fn put_sends(page: &mut [u8], at: usize, outbox: &[u8; 16]) -> usize {
+    put_word(page, at, outbox)
+}
+
 fn put_codes(page: &mut [u8], at: usize, codes: [u8; 8]) -> usize {
-    let mut k = text::put(page, at, b" codes ");
-    k = text::put_hex(page, k, wide(codes[0]), 2);
-    k = text::put_hex(page, k, wide(codes[1]), 2);
-    k = text::put_hex(page, k, wide(codes[2]), 2);
-    k = text::put_hex(page, k, wide(codes[3]), 2);
-    k = text::put_hex(page, k, wide(codes[4]), 2);
-    k = text::put_hex(page, k, wide(codes[5]), 2);
-    k = text::put_hex(page, k, wide(codes[6]), 2);
-    text::put_hex(page, k, wide(codes[7]), 2)
+    let k = text::put(page, at, b" codes ");
+    let l = put_four(page, k, codes[0], codes[1], codes[2], codes[3]);
+    put_four(page, l, codes[4], codes[5], codes[6], codes[7])
+}
+
+fn put_four(page: &mut [u8], at: usize, a: u8, b: u8, c: u8, d: u8) -> usize {
+    let mut k = text::put_hex(page, at, wide(a), 2);
+    k = text::put_hex(page, k, wide(b), 2);
+    k = text::put_hex(page, k, wide(c), 2);
+    text::put_hex(page, k, wide(d), 2)
 }
 
 fn put_time(page: &mut [u8], at: usize, set: Set) -> usize {

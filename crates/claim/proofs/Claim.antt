@@ -1,9 +1,9 @@
--- What is claimed of every list of single calls, from what each call's own contract tells. The set is at every point the one that the book stands for; the
--- book, and what came since the dial line, are carried from the left. Assumes nothing.
+-- What is claimed of every list of single calls, from what each call's own contract tells. The set is at every point the one that the book stands
+-- for; the book, and what came since the dial line, are carried from the left. Assumes nothing.
 use Prim.Native.Nat.{ℕ, _+_, _≤_, _<_}
 use native.Mathlib.Omega.{arith}
 use mathlib.Core.Path.{_≡_, refl, sym, ap, _∙_}
-use mathlib.Core.Bool.{Bool, true, false, true≢false}
+use mathlib.Core.Bool.{true, false, true≢false}
 use mathlib.Core.List.{List, [], _∷_, map}
 use mathlib.Core.Logic.{_⊎_, inl, inr, ⊎-elim, _↔_}
 use lib.ListN.{length}

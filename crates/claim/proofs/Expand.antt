@@ -3,7 +3,7 @@
 use Prim.Native.Nat.{ℕ}
 use mathlib.Core.Path.{_≡_, refl, sym, ap, subst, _∙_}
 use mathlib.Core.Bool.{true}
-use mathlib.Core.List.{List, [], _∷_, _++_, map}
+use mathlib.Core.List.{List, [], _∷_, map}
 use Rattle.soundness.specs.Sound.{rateOk}
 use Rattle.set.specs.declared.Set.{Set}
 use Rattle.set.specs.Sound.{sound}

@@ -17,11 +17,10 @@ use Rattle.set.specs.Sound.{sound}
 use Rattle.set.specs.Set as set
 use Rattle.set.specs.String.{four, setBy, causeByLengths, stringCause, typedAll}
 use Rattle.set.specs.Book.{Call, typing, Book, blank}
-use Rattle.set.specs.Event.{Event}
 use Rattle.set.proofs.Answers.{feed-all-answers}
-use Rattle.claim.specs.Trace.{Did, typed, Trace, setAfter}
+use Rattle.claim.specs.Trace.{typed, Trace, setAfter}
 use Rattle.claim.specs.Claim.{SinceDial, notCalled, AllAnswered, callOf, bookAfter, sinceAfter}
-use Rattle.claim.specs.Strings.{Step, single, string, setOf, Happened, called, typedAll as typed-all, History, typedSingly, singles, typings, callsOf, StepAnswered, Holds, Claim}
+use Rattle.claim.specs.Strings.{Step, setOf, Happened, called, typedAll as typed-all, History, typedSingly, singles, typings, callsOf, StepAnswered, Claim}
 use Rattle.claim.proofs.Claim.{ListInvariant, played, fresh-invariant}
 use Rattle.claim.proofs.Expand.{Counts, Expanded, expanded}
 

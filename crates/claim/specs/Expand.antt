@@ -1,7 +1,6 @@
 -- Lists of steps of something that holds a set, where each step comes to a list of single calls on that set: a string to its bytes.
 use Prim.Native.Nat.{ℕ}
 use mathlib.Core.List.{List, [], _∷_, _++_}
-use Rattle.set.specs.declared.Set.{Set}
 use Rattle.set.specs.Book.{Call, Book}
 use Rattle.set.specs.Event.{Event}
 use Rattle.claim.specs.Claim.{bookAfter}

@@ -18,7 +18,7 @@ use Rattle.set.specs.Event.{Event, typedEvent, StringEvent, stringEvent, String
 use Rattle.set.proofs.Set.feed_all.Reads as feed-all
 use Rattle.claim.specs.Trace.{Did, Trace, setAfter}
 use Rattle.claim.specs.Expand as expand
-use Rattle.claim.specs.Claim.{SinceDial, notCalled, Reports, Answered, AllAnswered, bookAfter, sinceAfter, Played}
+use Rattle.claim.specs.Claim.{notCalled, Reports, Answered, AllAnswered, bookAfter, sinceAfter, Played}
 
 pub data Step : Type 0 where
   single : (e : Event) → Step
@@ -33,7 +33,8 @@ pub data Happened (s : Set) : Step → Type 0 where
   called : (e : Event) → Did s e → Happened s (single e)
   typedAll : (κs : Lfts 3) (bytes : RefT (List ℕ)) (carrier : Bool) (out codes : RefT (List ℕ)) (left codesLeft : List ℕ) (answer : TypedAll)
       → feed-all.Asked κs (s, (bytes, (carrier, (out, (codes, tt)))))
-      → feed-all.Learnt κs (s, (bytes, (carrier, (out, (codes, tt))))) answer (s, (bytes, (carrier, (at-last out left, (at-last codes codesLeft, tt)))))
+      → feed-all.Learnt κs (s, (bytes, (carrier, (out, (codes, tt))))) answer
+      (s, (bytes, (carrier, (at-last out left, (at-last codes codesLeft, tt)))))
       → Happened s (string (stringEvent (now bytes) carrier (now out) left (now codes) codesLeft answer))
 
 -- each is made on the set that the one before returned

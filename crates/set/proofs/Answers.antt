@@ -65,7 +65,8 @@ module _ (s : Set) where
       })
 
   pub feed-all-answers : (κs : Lfts 3) (bytes : RefT (List ℕ)) (carrier : Bool) (out codes : RefT (List ℕ)) (left codesLeft : List ℕ) (answer : TypedAll)
-      → feed-all.Learnt κs (s, (bytes, (carrier, (out, (codes, tt))))) answer (s, (bytes, (carrier, (at-last out left, (at-last codes codesLeft, tt)))))
+      → feed-all.Learnt κs (s, (bytes, (carrier, (out, (codes, tt))))) answer
+      (s, (bytes, (carrier, (at-last out left, (at-last codes codesLeft, tt)))))
       → StringByCause s (stringCause s (length (now bytes)) (length (now out)) (length (now codes)))
       (stringEvent (now bytes) carrier (now out) left (now codes) codesLeft answer)
   unfolding typedAll outboxAll codesAll

@@ -1,5 +1,4 @@
 -- `console::lines::string` meets its contract: one test for each part of the definition's. Assumes nothing.
-use borrow.Author.Needs.{needs}
 use borrow.Author.Tests.{le-leb, lt-leb}
 use Rattle.console.specs.Lines.{stringCall, stringIf}
 use Rattle.console.proofs.lines.string.Statement.{statement}
