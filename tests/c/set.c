@@ -201,8 +201,9 @@ static void refusals(void)
     CHECK(memcmp(&set, &was, sizeof set) == 0 && sends[0] == 7 && sends[1027] == 7 && codes[0] == 7 && codes[513] == 7);
     CHECK(gibbonplate_feed_all(&set, string, 256, false, sends, 1024, codes, 512, &sent) == 0 && sent == 0);
     CHECK(codes[0] == 0 && codes[511] == 0 && codes[512] == 7 && sends[0] == 7);
-    CHECK(gibbonplate_feed_all(&set, (const uint8_t *)"\rATI\rATX\r", 10, false, sends, 40, codes, 20, &sent) == 0 && sent == 0);
-    CHECK(memcmp(codes, "\4\0\0\0\0\0\0\0\5\1\0\0\0\0\0\0\0\0\4\0\0", 21) == 0);
+    memset(codes, 7, sizeof codes);
+    CHECK(gibbonplate_feed_all(&set, (const uint8_t *)"\rATI\rATX\r", 9, false, sends, 36, codes, 20, &sent) == 0 && sent == 0);
+    CHECK(memcmp(codes, "\4\0\0\0\0\0\0\0\5\1\0\0\0\0\0\0\4\0\7\7", 20) == 0);
 
     /* 7, and a cue */
     CHECK(gibbonplate_cue(&set, 0, &sample) == 7 && sample == 0);
