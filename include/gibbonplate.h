@@ -20,7 +20,7 @@
  *
  *   - Each pointer is to memory of its type, as long as the call is told, and may be written where it
  *     is not const. None is null, but that of a buffer of length 0 may be.
- *   - What is lent to one call does not overlap: set, outbox, buffer, answer.
+ *   - What is lent to one call does not overlap: set, string, outbox, codes, buffer, answer.
  *   - One call at a time on one set, and each call gets the set as the one before left it. Two sets
  *     have nothing to do with each other. Assigning a set copies it.
  *   - A bool is 0 or 1, as every C expression of the type is.
@@ -58,7 +58,9 @@ enum gibbonplate_refusal {
     GIBBONPLATE_LONG_FILL = 3,     /* a fill of over 65,536 samples */
     GIBBONPLATE_LINE_UP = 5,       /* a fill in state 3 */
     GIBBONPLATE_UNSOUND = 6,       /* the memory holds no set that calls can reach */
-    GIBBONPLATE_BAD_POSITION = 7   /* a cue: nothing is being dialled, or it has no such digit */
+    GIBBONPLATE_BAD_POSITION = 7,  /* a cue: nothing is being dialled, or it has no such digit */
+    GIBBONPLATE_LONG_STRING = 8,   /* a string of over 256 bytes */
+    GIBBONPLATE_STRING_ROOM = 9    /* a string: an outbox under 4 bytes a byte, or a code buffer under 2 */
 };
 
 /* The states. */
@@ -74,6 +76,7 @@ enum {
     GIBBONPLATE_MAX_FILL = 65536,
     GIBBONPLATE_MAX_LINE = 80,
     GIBBONPLATE_MAX_DIGITS = 76,
+    GIBBONPLATE_MAX_STRING = 256,
     GIBBONPLATE_MAX_REPLY = 26 /* bytes of the longest reply */
 };
 
@@ -98,6 +101,8 @@ typedef struct gibbonplate_answer {
 uint8_t gibbonplate_new_in(GIBBONPLATE_ARRAYS, uint32_t rate);
 uint8_t gibbonplate_feed_in(GIBBONPLATE_ARRAYS, uint8_t byte, bool carrier, uint8_t *outbox, size_t len,
                             uint8_t codes[2], size_t *sent);
+uint8_t gibbonplate_feed_all_in(GIBBONPLATE_ARRAYS, const uint8_t *bytes, size_t count, bool carrier, uint8_t *outbox, size_t len,
+                                uint8_t *codes, size_t places, size_t *sent);
 uint8_t gibbonplate_advance_time_in(GIBBONPLATE_ARRAYS, uint64_t ns, bool carrier, uint8_t codes[2]);
 uint8_t gibbonplate_force_data_mode_in(GIBBONPLATE_ARRAYS);
 uint8_t gibbonplate_process_out_in(GIBBONPLATE_ARRAYS, float *samples, size_t len);
@@ -129,6 +134,19 @@ static inline uint8_t gibbonplate_feed(gibbonplate_set *set, uint8_t byte, bool 
                                        gibbonplate_answer *answer)
 {
     return gibbonplate_feed_in(GIBBONPLATE_OF(set), byte, carrier, outbox, len, answer->codes, &answer->sent);
+}
+
+/*
+ * A string of up to 256 bytes is typed, all with one carrier flag: as gibbonplate_feed for each of them, in one
+ * call. What they send is put at the front of the outbox, in order, and sent gets how many bytes that is; the
+ * codes of byte i, from 0, are put at codes[2 * i] and codes[2 * i + 1], 0 for none; what is behind them stays.
+ * The outbox has to have 4 bytes for each byte of the string, and codes 2. Declines with 6, 8 and 9, in this
+ * order; nothing is typed then, and sent is 0. A string of no bytes needs no room.
+ */
+static inline uint8_t gibbonplate_feed_all(gibbonplate_set *set, const uint8_t *bytes, size_t count, bool carrier, uint8_t *outbox,
+                                           size_t len, uint8_t *codes, size_t places, size_t *sent)
+{
+    return gibbonplate_feed_all_in(GIBBONPLATE_OF(set), bytes, count, carrier, outbox, len, codes, places, sent);
 }
 
 /*

@@ -7,7 +7,7 @@ pub struct Lent {
     longs: [u64; 5],
     counts: [u32; 4],
     reals: [f64; 6],
-    marks: [u8; 8],
+    marks: [u8; 9],
     line: [u8; 80],
     keys: [u8; 76],
 }
@@ -15,7 +15,7 @@ pub struct Lent {
 type Longs = [u64; 5];
 type Counts = [u32; 4];
 type Reals = [f64; 6];
-type Marks = [u8; 8];
+type Marks = [u8; 9];
 type Line = [u8; 80];
 type Keys = [u8; 76];
 
@@ -27,6 +27,10 @@ extern "C" {
         l: &mut Longs, c: &mut Counts, r: &mut Reals, m: &mut Marks, b: &mut Line, k: &mut Keys,
         byte: u8, carrier: bool, outbox: &mut [u8], codes: &mut [u8; 2], sent: &mut usize,
     ) -> u8;
+    fn gibbonplate_feed_all_in(
+        l: &mut Longs, c: &mut Counts, r: &mut Reals, m: &mut Marks, b: &mut Line, k: &mut Keys,
+        bytes: &[u8], carrier: bool, outbox: &mut [u8], codes: &mut [u8], sent: &mut usize,
+    ) -> u8;
     fn gibbonplate_process_out_in(
         l: &mut Longs, c: &mut Counts, r: &mut Reals, m: &mut Marks, b: &mut Line, k: &mut Keys, samples: &mut [f32],
     ) -> u8;
@@ -35,7 +39,7 @@ extern "C" {
 impl Lent {
     /// The set where a call begins.
     pub fn at(start: Start) -> Lent {
-        let mut s = Lent { longs: [0; 5], counts: [0; 4], reals: [0.0; 6], marks: [0; 8], line: [0; 80], keys: [0; 76] };
+        let mut s = Lent { longs: [0; 5], counts: [0; 4], reals: [0.0; 6], marks: [0; 9], line: [0; 80], keys: [0; 76] };
         unsafe {
             gibbonplate_new_in(&mut s.longs, &mut s.counts, &mut s.reals, &mut s.marks, &mut s.line, &mut s.keys, start.rate);
         }
@@ -58,6 +62,17 @@ impl Lent {
             gibbonplate_feed_in(
                 &mut self.longs, &mut self.counts, &mut self.reals, &mut self.marks, &mut self.line, &mut self.keys,
                 byte, carrier, &mut outbox, &mut codes, &mut sent,
+            );
+        }
+        sent
+    }
+
+    pub fn feed_all(&mut self, bytes: &[u8], carrier: bool) -> usize {
+        let (mut outbox, mut codes, mut sent) = ([0; 44], [0; 22], 0);
+        unsafe {
+            gibbonplate_feed_all_in(
+                &mut self.longs, &mut self.counts, &mut self.reals, &mut self.marks, &mut self.line, &mut self.keys,
+                bytes, carrier, &mut outbox, &mut codes, &mut sent,
             );
         }
         sent

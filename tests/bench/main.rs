@@ -23,6 +23,9 @@ const RATES: [u32; 3] = [44_100, 48_000, 192_000];
 const BUFFERS: [usize; 3] = [32, 128, 4_096];
 /// How often a call that takes less than the clock can tell is made.
 const CALLS: u64 = 20_000;
+
+/// What a panel's macro types, without its CR: the set is in data mode, and sends it.
+const STRING: &[u8] = b"ATDT5551234";
 const HEAD: &str = "    Rust     port   ratio";
 /// Stage numbers and what is heard; Cj in its two parts.
 const STAGES: [(usize, &str); 10] = [
@@ -260,6 +263,18 @@ impl Bench {
             })
         });
         println!("{:<21} {rust:>8.1} {port:>8.1} {lent:>12.1}", "a typed byte");
+        println!("{:<21} {:>8.1} {:>8.1} {:>12.1}", "eleven typed bytes", 11.0 * rust, 11.0 * port, 11.0 * lent);
+        assert_eq!((start.strings(1), Lent::at(start).feed_all(STRING, true)), (11, 11));
+        let port = self.best_of_port(|turns| start.strings(turns));
+        let lent = self.best(|| {
+            let mut set = Lent::at(start);
+            nanoseconds(|| {
+                for _ in 0..CALLS {
+                    black_box(set.feed_all(black_box(STRING), true));
+                }
+            })
+        });
+        println!("{:<21} {:>8} {port:>8.1} {lent:>12.1}", "a string of 11 bytes", "-");
         let rust = self.best(|| {
             let mut set = rust_at(start);
             nanoseconds(|| {

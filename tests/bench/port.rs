@@ -6,6 +6,7 @@ extern "C" {
     fn bench_fills(rate: u32, digits: &[u8], skip: usize, length: usize, turns: u64, out: &mut [f32]) -> u32;
     fn bench_empty_fills(rate: u32, digits: &[u8], skip: usize, turns: u64) -> u32;
     fn bench_bytes(rate: u32, digits: &[u8], skip: usize, turns: u64) -> u64;
+    fn bench_strings(rate: u32, digits: &[u8], skip: usize, turns: u64) -> u64;
     fn bench_sound(rate: u32, digits: &[u8], skip: usize, turns: u64) -> u64;
 }
 
@@ -31,6 +32,11 @@ impl Start<'_> {
     /// Answers how many bytes the last one sent.
     pub fn bytes(self, turns: u64) -> u64 {
         unsafe { bench_bytes(self.rate, self.digits, self.skip, turns) }
+    }
+
+    /// Strings of eleven bytes; answers how many bytes the last one sent.
+    pub fn strings(self, turns: u64) -> u64 {
+        unsafe { bench_strings(self.rate, self.digits, self.skip, turns) }
     }
 
     /// Answers how often the set was sound.

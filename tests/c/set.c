@@ -4,6 +4,7 @@
  *     set call DIGITS RATE FILE   plays a call in buffers of changing lengths, and holds the samples
  *                                 against those of a WAV file of `call`, bit for bit
  *     set refusals                every refusal, every reader and every reply
+ *     set strings TIMES           strings at random, each held against its bytes typed singly
  *     set scribble TIMES [SEED]   writes over the memory at random and calls: each call answers, a
  *                                 declined one changes nothing, and nothing is touched that was not lent
  *
@@ -144,7 +145,8 @@ static void refusals(void)
 {
     gibbonplate_set set, was;
     gibbonplate_answer answer;
-    uint8_t outbox[8], text[40], digits[GIBBONPLATE_MAX_DIGITS], ring;
+    uint8_t outbox[8], text[40], digits[GIBBONPLATE_MAX_DIGITS], ring, string[GIBBONPLATE_MAX_STRING + 1], sends[1028], codes[514];
+    size_t sent;
     float *samples = calloc(GIBBONPLATE_MAX_FILL + 1, sizeof(float));
     uint64_t sample;
     int i;
@@ -184,6 +186,25 @@ static void refusals(void)
         CHECK(gibbonplate_new(&set, 8000) == 0);
     }
 
+    /* 8, 9, and a string of no bytes */
+    memset(string, 'A', sizeof string);
+    memset(sends, 7, sizeof sends);
+    memset(codes, 7, sizeof codes);
+    was = set;
+    sent = 9;
+    CHECK(gibbonplate_feed_all(&set, string, 257, false, sends, sizeof sends, codes, sizeof codes, &sent) == 8 && sent == 0);
+    CHECK(gibbonplate_feed_all(&set, string, 257, false, sends, 0, codes, 0, &sent) == 8);
+    CHECK(gibbonplate_feed_all(&set, string, 256, false, sends, 1023, codes, 512, &sent) == 9 && sent == 0);
+    CHECK(gibbonplate_feed_all(&set, string, 256, false, sends, 1024, codes, 511, &sent) == 9);
+    CHECK(gibbonplate_feed_all(&set, string, 1, false, sends, 3, codes, 1, &sent) == 9);
+    CHECK(gibbonplate_feed_all(&set, NULL, 0, false, NULL, 0, NULL, 0, &sent) == 0 && sent == 0);
+    CHECK(memcmp(&set, &was, sizeof set) == 0 && sends[0] == 7 && sends[1027] == 7 && codes[0] == 7 && codes[513] == 7);
+    CHECK(gibbonplate_feed_all(&set, string, 256, false, sends, 1024, codes, 512, &sent) == 0 && sent == 0);
+    CHECK(codes[0] == 0 && codes[511] == 0 && codes[512] == 7 && sends[0] == 7);
+    memset(codes, 7, sizeof codes);
+    CHECK(gibbonplate_feed_all(&set, (const uint8_t *)"\rATI\rATX\r", 9, false, sends, 36, codes, 20, &sent) == 0 && sent == 0);
+    CHECK(memcmp(codes, "\4\0\0\0\0\0\0\0\5\1\0\0\0\0\0\0\4\0\7\7", 20) == 0);
+
     /* 7, and a cue */
     CHECK(gibbonplate_cue(&set, 0, &sample) == 7 && sample == 0);
     type(&set, "ATDT12\r");
@@ -221,6 +242,9 @@ static void refusals(void)
     CHECK(gibbonplate_advance_time(&set, 1, false, &answer) == 0 && answer.codes[0] == 3);
     CHECK(gibbonplate_state(&set) == 0 && gibbonplate_mode(&set) == 'C');
     CHECK(gibbonplate_force_data_mode(&set) == 0 && gibbonplate_mode(&set) == 'D');
+    memset(sends, 7, sizeof sends);
+    CHECK(gibbonplate_feed_all(&set, (const uint8_t *)"a+\r", 3, false, sends, 12, codes, 6, &sent) == 0 && sent == 3);
+    CHECK(memcmp(sends, "a+\r\7", 4) == 0);
 
     /* 6 */
     set.counts[0] = 7999;
@@ -228,6 +252,8 @@ static void refusals(void)
     memset(outbox, 7, sizeof outbox);
     samples[0] = 3;
     CHECK(gibbonplate_feed(&set, 'A', false, outbox, 4, &answer) == 6 && outbox[0] == 7);
+    CHECK(gibbonplate_feed_all(&set, string, 257, false, sends, 0, codes, 0, &sent) == 6 && sent == 0 && sends[0] == 'a');
+    CHECK(gibbonplate_feed_all(&set, NULL, 0, false, NULL, 0, NULL, 0, &sent) == 6);
     CHECK(gibbonplate_advance_time(&set, 1, false, &answer) == 6);
     CHECK(gibbonplate_force_data_mode(&set) == 6);
     CHECK(gibbonplate_process_out(&set, samples, 1) == 6 && samples[0] == 3);
@@ -254,6 +280,58 @@ static void refusals(void)
     }
     free(samples);
     printf("every refusal, every reader and every reply\n");
+}
+
+/* ---- strings */
+
+/* A set that strings, lapses and fills lead on, and one with the same bytes typed singly. */
+static void strings(size_t times)
+{
+    static const char *const lines[] = {"AT\r", "ATDT5551234\r", "ATA\r", "ATH\rATDT12\r", "ATI\r", "+++", "ATO\r", "atx\r", "\n"};
+    room typed = walled(GIBBONPLATE_MAX_STRING), sends = walled(4 * GIBBONPLATE_MAX_STRING + 9), coded = walled(2 * GIBBONPLATE_MAX_STRING + 9);
+    size_t moved = 0, bytes = 0, all = 0, i;
+    gibbonplate_set set, singly;
+    gibbonplate_answer answer;
+
+    gibbonplate_new(&set, 8000);
+    for (i = 0; i < times; i++) {
+        bool behind = below(2), carrier = below(2);
+        size_t count = 0, spare = below(10), places = below(10), at = 0, sent = 9, k;
+        uint8_t text[GIBBONPLATE_MAX_STRING], outbox[4], *string, *out, *codes;
+
+        while (count < 200 && below(4) != 0) {
+            const char *line = lines[below(sizeof lines / sizeof *lines)];
+            size_t len = below(8) == 0 ? below(40) : strlen(line);
+            for (k = 0; k < len; k++)
+                text[count++] = len == strlen(line) ? (uint8_t)line[k] : (uint8_t)random64();
+        }
+        string = lent(typed, count, behind);
+        memcpy(string, text, count);
+        memset(sends.bytes, 0x5A, sends.size);
+        memset(coded.bytes, 0x5A, coded.size);
+        out = lent(sends, 4 * count + spare, behind);
+        codes = lent(coded, 2 * count + places, behind);
+        singly = set;
+        CHECK(gibbonplate_feed_all(&set, string, count, carrier, out, 4 * count + spare, codes, 2 * count + places, &sent) == 0);
+        for (k = 0; k < count; k++) {
+            uint8_t state = gibbonplate_state(&singly);
+            CHECK(gibbonplate_feed(&singly, text[k], carrier, outbox, sizeof outbox, &answer) == 0);
+            CHECK(memcmp(out + at, outbox, answer.sent) == 0 && memcmp(codes + 2 * k, answer.codes, 2) == 0);
+            at += answer.sent;
+            moved += state != gibbonplate_state(&singly);
+        }
+        CHECK(sent == at && memcmp(&set, &singly, sizeof set) == 0);
+        for (k = at; k < 4 * count + spare; k++)
+            CHECK(out[k] == 0x5A);
+        for (k = 2 * count; k < 2 * count + places; k++)
+            CHECK(codes[k] == 0x5A);
+        CHECK(memcmp(string, text, count) == 0);
+        bytes += sent;
+        all += count;
+        CHECK(gibbonplate_advance_time(&set, below(2) ? 1000000000 : 1, carrier, &answer) == 0);
+    }
+    printf("%zu strings of %zu bytes as their bytes typed singly: %zu sent, the state changed %zu times\n", times, all, bytes, moved);
+    CHECK(times < 1000 || (bytes > 0 && moved > 0));
 }
 
 /* ---- memory scribbled over */
@@ -310,9 +388,9 @@ static void scribble(gibbonplate_set *set)
 static void scribbled(size_t times)
 {
     static gibbonplate_set sets[SETS];
-    size_t count = bank(sets), accepted = 0, declined[8] = {0}, i;
+    size_t count = bank(sets), accepted = 0, declined[10] = {0}, i;
     room home = walled(sizeof(gibbonplate_set)), away = walled(LONGEST * sizeof(float)), told = walled(sizeof(gibbonplate_answer));
-    unsigned char before[LONGEST * sizeof(float)];
+    unsigned char before[LONGEST * sizeof(float)], text[64];
 
     for (i = 0; i < times; i++) {
         bool behind = below(2);
@@ -332,15 +410,24 @@ static void scribbled(size_t times)
         bytes = lent(away, lost, behind);
         samples = lent(away, len * sizeof(float), behind);
         memcpy(before, away.bytes + (behind ? away.size - sizeof before : 0), sizeof before);
-        switch (below(6)) {
+        switch (below(7)) {
         case 0: refusal = gibbonplate_feed(set, (uint8_t)(below(3) ? random64() : '\r'), carrier, bytes, lost, answer); break;
+        case 6: {
+            size_t k, typed = below(sizeof text), sent = 9;
+            uint8_t codes[128] = {9};
+            for (k = 0; k < typed; k++)
+                text[k] = (uint8_t)(below(4) ? random64() : '\r');
+            refusal = gibbonplate_feed_all(set, text, typed, carrier, bytes, lost, codes, sizeof codes, &sent);
+            CHECK(refusal == 0 ? sent <= 4 * typed : sent == 0 && codes[0] == 9);
+            break;
+        }
         case 1: refusal = gibbonplate_advance_time(set, below(2) ? random64() : below(2000000000), carrier, answer); break;
         case 2: refusal = gibbonplate_force_data_mode(set); break;
         case 3: refusal = gibbonplate_process_out(set, samples, len); break;
         case 4: refusal = gibbonplate_ring(set, &ring); CHECK(refusal == 0 ? ring <= 2 : ring == 0); break;
         default: refusal = gibbonplate_cue(set, (uint32_t)below(80), &sample); CHECK((refusal == 0) == (sample > 0)); break;
         }
-        CHECK(refusal <= 7 && refusal != 1 && refusal != 3);
+        CHECK(refusal <= 9 && refusal != 8 && refusal != 1 && refusal != 3);
         declined[refusal]++;
         if (refusal == 0) {
             accepted++;
@@ -355,9 +442,9 @@ static void scribbled(size_t times)
         (void)gibbonplate_stage(set);
         (void)gibbonplate_m(set);
     }
-    printf("scribbled over %zu times: %zu calls were done, and declined with 2: %zu, 5: %zu, 6: %zu, 7: %zu\n",
-           times, accepted, declined[2], declined[5], declined[6], declined[7]);
-    CHECK(times < 100000 || (accepted > 0 && declined[2] > 0 && declined[4] == 0 && declined[5] > 0 && declined[6] > 0 && declined[7] > 0));
+    printf("scribbled over %zu times: %zu calls were done, and declined with 2: %zu, 5: %zu, 6: %zu, 7: %zu, 9: %zu\n",
+           times, accepted, declined[2], declined[5], declined[6], declined[7], declined[9]);
+    CHECK(times < 100000 || (accepted > 0 && declined[2] > 0 && declined[4] == 0 && declined[5] > 0 && declined[6] > 0 && declined[7] > 0 && declined[9] > 0));
 }
 
 int main(int argc, char **argv)
@@ -366,12 +453,14 @@ int main(int argc, char **argv)
         call(argv[2], (uint32_t)strtoul(argv[3], NULL, 10), argv[4]);
     } else if (argc == 2 && strcmp(argv[1], "refusals") == 0) {
         refusals();
+    } else if (argc == 3 && strcmp(argv[1], "strings") == 0) {
+        strings(strtoull(argv[2], NULL, 10));
     } else if ((argc == 3 || argc == 4) && strcmp(argv[1], "scribble") == 0) {
         if (argc == 4)
             seed ^= strtoull(argv[3], NULL, 10) * 0x9E3779B97F4A7C15;
         scribbled(strtoull(argv[2], NULL, 10));
     } else {
-        fprintf(stderr, "set: it takes call DIGITS RATE FILE, or refusals, or scribble TIMES [SEED]\n");
+        fprintf(stderr, "set: it takes call DIGITS RATE FILE, or refusals, or strings TIMES, or scribble TIMES [SEED]\n");
         return 1;
     }
     return 0;

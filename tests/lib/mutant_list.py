@@ -416,6 +416,37 @@ CUE = [
     one("lines.rs", "cue_position_of_256", "position <= 255", "position <= 256"),
 ]
 
+# ---------------------------------------------------------------- 02's E3, a string
+
+STRINGS = [
+    one("set.rs", "string_of_257", "STRING_LIMIT: usize = 256", "STRING_LIMIT: usize = 257"),
+    one("set.rs", "string_of_255", "bytes.len() > STRING_LIMIT", "bytes.len() >= STRING_LIMIT"),
+    one("set.rs", "string_outbox_a_byte_short", "outbox < OUTBOX_NEEDED * bytes.len()", "outbox + 1 < OUTBOX_NEEDED * bytes.len()"),
+    one("set.rs", "string_outbox_of_four", "outbox < OUTBOX_NEEDED * bytes.len()", "outbox < OUTBOX_NEEDED"),
+    one("set.rs", "string_codes_a_place_short", "places < 2 * bytes.len()", "places + 1 < 2 * bytes.len()"),
+    one("set.rs", "string_codes_one_a_byte", "places < 2 * bytes.len()", "places < bytes.len()"),
+    one("set.rs", "string_short_in_both_only", "OUTBOX_NEEDED * bytes.len() || places", "OUTBOX_NEEDED * bytes.len() && places"),
+    one("set.rs", "string_9_before_8", "if bytes.len() > STRING_LIMIT {",
+        "if bytes.len() > STRING_LIMIT && outbox >= OUTBOX_NEEDED * bytes.len() && places >= 2 * bytes.len() {"),
+    one("set.rs", "long_string_is_2", "Answer::declined(8)", "Answer::declined(2)"),
+    one("set.rs", "short_room_is_2", "Answer::declined(9)", "Answer::declined(2)"),
+    one("set.rs", "string_codes_at_i", "codes.extend_from_slice(&answer.codes);", "codes.push(answer.codes[0]);"),
+    one("set.rs", "string_codes_exchanged", "codes.extend_from_slice(&answer.codes);", "codes.extend(answer.codes.iter().rev());"),
+    one("set.rs", "string_sent_over_the_first", "sent.extend_from_slice(&self.session.sent);", "sent = self.session.sent.clone();"),
+    one("set.rs", "string_flag_for_the_first_byte", "self.feed(byte, carrier, OUTBOX_NEEDED)",
+        "self.feed(byte, carrier && codes.is_empty(), OUTBOX_NEEDED)"),
+    one("set.rs", "string_half_typed", "            return (Answer::declined(9), Vec::new());",
+        "            for &byte in &bytes[..bytes.len().min(outbox / OUTBOX_NEEDED).min(places / 2)] { self.feed(byte, carrier, OUTBOX_NEEDED); }"
+        "            self.session.begin_call(carrier); return (Answer::declined(9), Vec::new());"),
+    one("set.rs", "long_string_cut", "            return (Answer::declined(8), Vec::new());", "            return self.feed_all(&bytes[..STRING_LIMIT], carrier, outbox, places);"),
+    one("main.rs", "string_not_forgotten", "            kept.clear();\n", ""),
+    one("main.rs", "declined_string_not_forgotten", "            kept.clear();\n", "            if answer.refusal == 0 { kept.clear(); }\n"),
+    one("main.rs", "fresh_set_forgets_the_string", "            *set = fresh;\n", "            *set = fresh;\n            kept.clear();\n"),
+    one("lines.rs", "strings_without_ext", "if extended && outbox.max(places)", "if outbox.max(places)"),
+    one("lines.rs", "string_room_of_1201", "STRING_ROOM: u128 = 1_200", "STRING_ROOM: u128 = 1_201"),
+    one("lines.rs", "string_codes_of_any_length", "outbox.max(places) <= STRING_ROOM", "outbox <= STRING_ROOM"),
+]
+
 # ---------------------------------------------------------------- Cannot be seen
 
 UNSEEN = [
@@ -444,6 +475,8 @@ UNSEEN = [
     one("at.rs", "unseen_lost_keeps_down_time", "self.carrier_up = false;\n        self.carrier_down_for = Duration::ZERO;", "self.carrier_up = false;",
         unseen="it is read only once the carrier was up again, which zeroes it"),
     one("at.rs", "unseen_fourth_plus_late", "1 | 2 => idle <= GUARD_TIME", "1 | 2 | 4.. => idle <= GUARD_TIME", unseen="no more than three are held"),
+    one("main.rs", "unseen_kept_299", "KEPT: usize = 300", "KEPT: usize = 299", unseen="a string of more than 256 bytes is declined, however many more"),
+    one("main.rs", "unseen_kept_301", "KEPT: usize = 300", "KEPT: usize = 301", unseen="a string of more than 256 bytes is declined, however many more"),
 ]
 
-ALL = FLOATS + KEYS + STAGES + SET + REFUSALS + AT + LINES + CUE + UNSEEN
+ALL = FLOATS + KEYS + STAGES + SET + REFUSALS + AT + LINES + CUE + STRINGS + UNSEEN

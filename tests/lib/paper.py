@@ -17,6 +17,8 @@ CARRIER_HOLD = 700_000_000
 LINE_LIMIT = 80
 FILL_LIMIT = 65_536
 OUTBOX_NEEDED = 4
+STRING_LIMIT = 256
+KEPT = 300
 CR, LF, PLUS = 13, 10, 43
 
 IDLE, DIALLING, ANSWERING, CONNECTED = range(4)
@@ -276,7 +278,7 @@ class Set:
         self.command_mode, self.line, self.over = True, b"", False
         self.pluses, self.idle = 0, 0
         self.seen, self.down = False, 0
-        self.sent, self.cued = b"", 0
+        self.sent, self.cued, self.codes = b"", 0, b""
 
     # Each call gives (refusal, codes); `sent` holds what the last one sent.
 
@@ -298,6 +300,21 @@ class Set:
             self.over = True
             return 0, ()
         self.line += bytes([byte])
+        return 0, ()
+
+    def feed_all(self, string, carrier, outbox, places):
+        """02's E3; `codes` holds two of them a byte."""
+        self.sent, self.codes = b"", b""
+        if len(string) > STRING_LIMIT:
+            return 8, ()
+        if outbox < OUTBOX_NEEDED * len(string) or places < 2 * len(string):
+            return 9, ()
+        sent, all_codes = b"", b""
+        for byte in string:
+            _, codes = self.feed(byte, carrier)
+            sent += self.sent
+            all_codes += bytes((tuple(codes) + (0, 0))[:2])
+        self.sent, self.codes = sent, all_codes
         return 0, ()
 
     def advance_time(self, lapse, carrier):
@@ -422,6 +439,8 @@ def parsed(line, extended=False):
     if extended:
         limits[b"T", 3] = (255, 1, 16)
         limits[b"C", 1] = (255,)
+        limits[b"M", 1] = (255,)
+        limits[b"S", 3] = (1, 1_200, 1_200)
     limit = limits.get((letter, len(numbers)))
     if limit is None or any(most is not None and n > most for n, most in zip(numbers, limit)):
         return None
@@ -432,7 +451,7 @@ class Wall:
     """The program `wall`: lines in, answers out."""
 
     def __init__(self):
-        self.set = Set()
+        self.set, self.kept = Set(), b""
 
     def perform(self, call):
         letter, numbers = call
@@ -449,9 +468,16 @@ class Wall:
             return self.set.process_out(numbers[0])
         if letter == "C":
             return self.set.cue(numbers[0])
+        if letter == "S":
+            string, self.kept = self.kept, b""
+            return self.set.feed_all(string, numbers[0] == 1, *numbers[1:])
         return self.set.force_data_mode()
 
     def answer(self, call):
+        """The line printed; None for M, which prints nothing."""
+        if call[0] == "M":
+            self.kept = (self.kept + bytes(call[1]))[:KEPT]
+            return None
         refusal, codes = self.perform(call)
         first, second = (tuple(codes) + (0, 0))[:2]
         s = self.set
@@ -462,7 +488,8 @@ class Wall:
         """The part of the oracle's second line that needs no samples."""
         if call[0] == "C":
             return f"# cue={self.set.cued}"
-        return f"# ring={self.set.ring()} sent={self.set.sent.hex().upper() or '-'}"
+        sent = f"# ring={self.set.ring()} sent={self.set.sent.hex().upper() or '-'}"
+        return f"{sent} codes={self.set.codes.hex().upper() or '-'}" if call[0] == "S" else sent
 
 
 def lines_of(script):

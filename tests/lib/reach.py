@@ -4,6 +4,7 @@
 and it has to give the same answers.
 """
 
+import copy
 from collections import Counter
 
 import paper
@@ -52,9 +53,13 @@ def count(script, answers, extended=False, spread=None):
         if call is None:
             reached["other line"] += 1
             continue
+        if call[0] == "M":
+            reached["byte passed over" if len(wall.kept) == paper.KEPT else "byte kept"] += 1
+            wall.answer(call)
+            continue
         if at + 2 > len(rows):
             raise Disagreement(f"line {number} {line!r}: no answer")
-        before = Before(wall.set)
+        before = Before(wall.set, wall.kept)
         expected, facts = wall.answer(call), wall.facts(call)
         row, second = rows[at], rows[at + 1]
         at += 2
@@ -72,8 +77,9 @@ def count(script, answers, extended=False, spread=None):
 class Before:
     """What a call found."""
 
-    def __init__(self, s):
+    def __init__(self, s, kept=b""):
         self.__dict__.update(vars(s))
+        self.set, self.kept = copy.copy(s), kept
         self.next_stage = 0
         self.ends = ()
         if s.state == DIALLING:
@@ -291,7 +297,49 @@ def note_cue(reached, before, numbers, after, row):
         reached["cue off a whole place"] += 1
 
 
-NOTES = {"R": note_create, "T": note_typed, "W": note_lapse, "F": note_fill, "D": note_forced, "C": note_cue}
+def note_string(reached, before, numbers, after, row):
+    carrier, outbox, places = numbers
+    string, size, state = before.kept, len(before.kept), STATE_NAMES[before.state]
+    wanted, wanted_places = 4 * size, 2 * size
+    if row[0] == "8":
+        reached[f"string of {size} bytes declined" if size in (257, 300) else "longer string declined"] += 1
+        reached["string too long and without room"] += outbox < wanted or places < wanted_places
+        return
+    if row[0] == "9":
+        reached["string with its outbox a byte short"] += outbox == wanted - 1 and places >= wanted_places
+        reached["string with its codes a place short"] += outbox >= wanted and places == wanted_places - 1
+        reached["string with both buffers short"] += outbox < wanted and places < wanted_places
+        reached["declined string that would dial"] += b"ATDT" in string.upper()
+        return
+    reached[f"string of {size} bytes" if size in (0, 1, 256) else "string of other length"] += 1
+    reached["string with just enough room"] += size > 0 and outbox == wanted and places == wanted_places
+    reached["string with more room than that"] += outbox > wanted and places > wanted_places
+    reached[f"string in {state}"] += size > 0
+    reached["string with two codes of a byte"] += any(after.codes[1::2])
+    reached["string with codes of several bytes"] += sum(map(bool, after.codes[::2])) > 1
+    reached["string that sends"] += len(after.sent) > 1
+    # The single bytes, each noted as a typed one is.
+    one, moves, modes = before.set, [], set()
+    for byte in string:
+        found = Before(one)
+        modes.add(found.command_mode)
+        line = b"" if byte != CR or found.over or not found.command_mode else found.line.upper()
+        _, codes = one.feed(byte, carrier == 1)
+        single = [row[0]] + row[1:5] + [str(code) for code in (tuple(codes) + (0, 0))[:2]]
+        note_typed(reached, found, [byte, carrier], one, single)
+        moves += [name for name, is_it in (("dials", line.startswith(b"ATDT")), ("answers", line == b"ATA"),
+                                           ("hangs up", line in (b"ATH", b"ATH0"))) if is_it]
+        reached["string that lets pluses go"] += len(one.sent) > 1
+        reached["string that withholds a plus"] += one.pluses > found.pluses
+        reached["string that runs over a line"] += one.over and not found.over
+    for move in set(moves):
+        reached[f"string that {move}"] += 1
+    reached["string that hangs up and dials"] += "hangs up" in moves and moves[-1] == "dials"
+    reached["string in both modes"] += len(modes) == 2
+    reached["string whose carrier flag is heard"] += carrier == 1 and 2 in after.codes
+
+
+NOTES = {"R": note_create, "T": note_typed, "W": note_lapse, "F": note_fill, "D": note_forced, "C": note_cue, "S": note_string}
 
 
 # ---------------------------------------------------------------- what must be reached
@@ -344,6 +392,14 @@ def must(extended):
         names += ["cue of a digit that was heard", "cue on a whole place", "cue one after a whole place", "cue off a whole place"]
         names += [f"cue declined: {why}" for why in ("no such digit", "Idle", "Answering", "Connected")]
         names += ["cue at position d", "cue with no digits"]
+        names += ["refusal 8", "refusal 9", "byte kept", "byte passed over", "string of 257 bytes declined", "string of 300 bytes declined"]
+        names += ["string too long and without room", "string with its outbox a byte short", "string with its codes a place short"]
+        names += ["string with both buffers short", "declined string that would dial", "string with just enough room"]
+        names += [f"string of {n} bytes" for n in (0, 1, 256)] + ["string of other length", "string with more room than that"]
+        names += [f"string in {state}" for state in STATE_NAMES] + ["string in both modes", "string whose carrier flag is heard"]
+        names += ["string with two codes of a byte", "string with codes of several bytes", "string that sends"]
+        names += ["string that lets pluses go", "string that withholds a plus", "string that runs over a line"]
+        names += [f"string that {what}" for what in ("dials", "answers", "hangs up", "hangs up and dials")]
     return names
 
 

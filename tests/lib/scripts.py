@@ -17,6 +17,7 @@ COMMANDS = (
     b"ATDP1", b"AT DT1", b"ATX", b"ATDX", b"ATD", b"ATDT", b"ATDT12", b"ATDTABCDEF", b"A", b"T",
     b"TA", b" AT", b"AT ", b"ATZ0", b"ATH1", b"ATH00", b"ATO1", b"ATI0", b"ATAA", b"ATAT", b"+++ATH0",
 )
+STRINGS = (b"ATH\rATDT12", b"ATDT5551234", b"ATA", b"ATI", b"ATO", b"ATH0\rATA", b"ATDT1\rabc")
 BLOCKS = (64, 128, 160, 256, 441, 480, 512, 1_024, 2_048, 4_096, 8_192, 16_383, 16_384)
 KEYS = b"0123456789*#ABCDabcd"
 NO_KEYS = b" -()EFGZefgz,.+\x00\x7f\x80\xc3\xff"
@@ -27,6 +28,7 @@ OTHER_LINES = (
     b"F", b"F,", b"F,-1", b"F,70001", b"F,18446744073709551617", b"F,1,1", b"F,0x10", b"D,", b"D,0", b"D ",
     b"d", b"DD", b"X", b"X,1", b"0", b",", b",,", b"R,8000\r", b"D\r", b"F,1\r", b"\xff\xfe", b"T,65,0\x00",
     b"# ring=0", b"0,C,0,0,0,0,0", b"C", b"C,", b"C,256", b"C,0,0", b"c,0", b"C,-1", b"C,18446744073709551616", b"# cue=0",
+    b"M", b"M,", b"M,256", b"M,65,0", b"m,65", b"S", b"S,0", b"S,0,4", b"S,2,4,2", b"S,0,1201,2", b"S,0,4,1201", b"S,0,4,2,0", b"s,0,4,2",
 )
 
 
@@ -115,6 +117,9 @@ class Script:
         if self.set.line and self.chance(0.8):
             self.put(b"T,13,0")
             self.to_command_mode()
+        if self.extended and self.chance(0.15):
+            self.type_string(text + b"\r", carrier)
+            return
         for byte in text:
             if self.chance(0.03):
                 self.type_byte(LF, carrier)
@@ -381,6 +386,56 @@ class Script:
             self.scene_fill()
             self.cue(self.random.randint(0, max(count, 1)))
 
+    def keep(self, string):
+        for byte in string:
+            self.put(b"M," + self.number(byte))
+
+    def type_string(self, string, carrier=None, outbox=None, places=None):
+        """02's E3: the string in one call, with just enough room where none is given."""
+        self.keep(string)
+        size = len(self.wall.kept)
+        outbox = min(4 * size, 1_200) if outbox is None else outbox
+        places = min(2 * size, 1_200) if places is None else places
+        self.put(b"S," + self.flag(carrier) + b"," + self.number(outbox) + b"," + self.number(places))
+
+    def some_string(self):
+        pick = self.random.random()
+        if pick < 0.45:
+            return b"".join(self.random.choice(COMMANDS + STRINGS) + b"\r" for _ in range(self.random.randint(1, 3)))
+        if pick < 0.6:
+            return self.random.choice((b"+", b"++", b"+++", b"++++", b"+++A", b"x+++", b"")) + self.random.choice((b"", b"y", b"\n"))
+        if pick < 0.75:
+            return bytes(self.random.choice((self.random.randint(0, 255), PLUS, CR, LF, 65)) for _ in range(self.random.randint(0, 40)))
+        if pick < 0.9:
+            return b"ATDT" + bytes(self.random.choice(b"0123456789#*D") for _ in range(self.random.randint(70, 90))) + b"\r"
+        return b"AT\r" * 85 + bytes(self.random.choice(b"A\r") for _ in range(self.random.randint(0, 50)))
+
+    def scene_string(self):
+        """Strings of every length, with room that is just enough, short, or long; a few with a fresh set in between."""
+        if not self.extended:
+            return
+        if self.chance(0.5):
+            self.to_command_mode()
+        for _ in range(self.random.randint(1, 3)):
+            string = self.some_string()
+            if string.startswith(b"+") and self.chance(0.7):
+                self.to_data_mode()
+                self.lapse(SECOND, self.set.seen)
+            if self.chance(0.15):
+                length = self.random.choice((0, 1, 255, 256, 256, 257, 299, 300, 301))
+                string = (string + b"ATDT1\r" * 60)[:length]
+            if self.chance(0.1):
+                self.keep(string[:len(string) // 2])
+                self.create(self.some_rate())
+                string = string[len(string) // 2:]
+            size = len(self.wall.kept) + len(string)
+            room = lambda each: min(1_200, max(0, self.random.choice((each * size,) * 4 + (each * size - 1, each * size + 1, 0, 1_200))))
+            self.type_string(string, self.chance(0.4), room(4), room(2))
+            if self.chance(0.3):
+                self.fill(self.random.choice((0, 1, 9, 400)))
+            if self.chance(0.3):
+                self.lapse(self.random.choice(GUARDS), self.chance(0.5))
+
     def scene_in_connected(self):
         """Fills, bytes and a new dial once the line is up."""
         if self.set.state != CONNECTED:
@@ -435,7 +490,7 @@ class Script:
         (scene_fresh, 6), (scene_command, 12), (scene_empty_line, 2), (scene_dial, 10), (scene_fill, 10),
         (scene_stage_end, 8), (scene_walk, 3), (scene_line_up, 3), (scene_inner_edge, 5), (scene_escape, 10),
         (scene_carrier, 8), (scene_resume, 5), (scene_hang_up, 4), (scene_huge_lapse, 2), (scene_forced, 4), (scene_long_line, 4), (scene_other_lines, 4), (scene_noise, 5),
-        (scene_extended, 8), (scene_cue, 6), (scene_in_connected, 3), (scene_in_answering, 3),
+        (scene_extended, 8), (scene_cue, 6), (scene_string, 10), (scene_in_connected, 3), (scene_in_answering, 3),
     )
 
     def write(self, count):

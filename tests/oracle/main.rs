@@ -3,7 +3,7 @@
 //!
 //! oracle [--bits] [--ext] < lines
 //!
-//! --bits adds a line to each answer: ring, bytes sent and, for a fill, its samples; for a cue, its sample.
+//! --bits adds a line to each answer: ring, bytes sent and, for a fill, its samples; for a cue, its sample; for a string, its codes.
 //! --ext lets T lines give the outbox length and fills be longer than `wall` allows, and adds the lines of 02.
 
 // The Rust is compiled as it is; what 01 leaves out of it is never called.
@@ -22,10 +22,14 @@ enum Second {
     Sent,
     Filled(Vec<f32>),
     Cued(u64),
+    Coded(Vec<u8>),
 }
 
 /// What a buffer holds before its fill, so that a declined one can be told.
 const UNTOUCHED: u32 = 0x3F9D_70A4;
+
+/// How long a string is kept.
+const KEPT: usize = 300;
 
 fn main() -> io::Result<()> {
     let mut bits = false;
@@ -47,6 +51,7 @@ fn run(bits: bool, extended: bool) -> io::Result<()> {
     let mut input = BufReader::new(io::stdin().lock());
     let mut output = BufWriter::new(io::stdout().lock());
     let (_, mut set) = Set::new(set::LOWEST_RATE);
+    let mut kept = Vec::new();
     let mut line = Vec::new();
     loop {
         // Whoever waits for an answer before the next line gets it.
@@ -61,7 +66,7 @@ fn run(bits: bool, extended: bool) -> io::Result<()> {
             line.pop();
         }
         let Some(call) = read_line(&line, extended) else { continue };
-        let (answer, second) = perform(&mut set, call);
+        let Some((answer, second)) = perform(&mut set, &mut kept, call) else { continue };
         print_answer(&mut output, &set, &answer)?;
         if bits {
             print_second(&mut output, &set, second)?;
@@ -69,9 +74,9 @@ fn run(bits: bool, extended: bool) -> io::Result<()> {
     }
 }
 
-/// The answer, and what its second line tells.
-fn perform(set: &mut Set, call: Call) -> (Answer, Second) {
-    match call {
+/// The answer, and what its second line tells. A byte that is kept has neither.
+fn perform(set: &mut Set, kept: &mut Vec<u8>, call: Call) -> Option<(Answer, Second)> {
+    Some(match call {
         Call::Create { rate } => {
             let (answer, fresh) = Set::new(rate);
             *set = fresh;
@@ -89,7 +94,18 @@ fn perform(set: &mut Set, call: Call) -> (Answer, Second) {
             let (answer, sample) = set.cue(position);
             (answer, Second::Cued(sample))
         }
-    }
+        Call::Keep { byte } => {
+            if kept.len() < KEPT {
+                kept.push(byte);
+            }
+            return None;
+        }
+        Call::TypeString { carrier, outbox, places } => {
+            let (answer, codes) = set.feed_all(kept, carrier, outbox, places);
+            kept.clear();
+            (answer, Second::Coded(codes))
+        }
+    })
 }
 
 fn print_answer(out: &mut impl Write, set: &Set, answer: &Answer) -> io::Result<()> {
@@ -110,16 +126,25 @@ fn print_second(out: &mut impl Write, set: &Set, second: Second) -> io::Result<(
             print_samples(out, &samples)?;
         }
         Second::Cued(sample) => write!(out, "# cue={sample}")?,
+        Second::Coded(codes) => {
+            print_sent(out, set)?;
+            write!(out, " codes=")?;
+            print_bytes(out, &codes)?;
+        }
     }
     writeln!(out)
 }
 
 fn print_sent(out: &mut impl Write, set: &Set) -> io::Result<()> {
     write!(out, "# ring={} sent=", set.ring())?;
-    if set.session.sent.is_empty() {
+    print_bytes(out, &set.session.sent)
+}
+
+fn print_bytes(out: &mut impl Write, bytes: &[u8]) -> io::Result<()> {
+    if bytes.is_empty() {
         write!(out, "-")?;
     }
-    for byte in &set.session.sent {
+    for byte in bytes {
         write!(out, "{byte:02X}")?;
     }
     Ok(())

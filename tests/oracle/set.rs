@@ -11,6 +11,7 @@ pub const HIGHEST_RATE: u128 = 192_000;
 const LINE_LIMIT: usize = 80;
 const OUTBOX_NEEDED: usize = 4;
 const FILL_LIMIT: usize = 65_536;
+const STRING_LIMIT: usize = 256;
 
 /// A call's refusal (0 none) and its codes (0 none).
 #[derive(Default)]
@@ -74,6 +75,25 @@ impl Set {
         let reply = self.at.feed(byte, &mut self.session);
         self.restart_count_if_moved();
         Answer::replied(reply)
+    }
+
+    /// 02's E3: the bytes typed singly; what they sent and their codes, joined.
+    pub fn feed_all(&mut self, bytes: &[u8], carrier: bool, outbox: usize, places: usize) -> (Answer, Vec<u8>) {
+        self.session.begin_call(carrier);
+        if bytes.len() > STRING_LIMIT {
+            return (Answer::declined(8), Vec::new());
+        }
+        if outbox < OUTBOX_NEEDED * bytes.len() || places < 2 * bytes.len() {
+            return (Answer::declined(9), Vec::new());
+        }
+        let (mut sent, mut codes) = (Vec::new(), Vec::new());
+        for &byte in bytes {
+            let answer = self.feed(byte, carrier, OUTBOX_NEEDED);
+            sent.extend_from_slice(&self.session.sent);
+            codes.extend_from_slice(&answer.codes);
+        }
+        self.session.sent = sent;
+        (Answer::default(), codes)
     }
 
     pub fn advance_time(&mut self, lapse: core::time::Duration, carrier: bool) -> Answer {

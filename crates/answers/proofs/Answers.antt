@@ -12,10 +12,10 @@ use Rattle.ascii.specs.Front.{putIf, put, putLengthIf, putLength}
 use Rattle.reply.specs.Texts.{textOf}
 use Rattle.nco.specs.Lent.{lentSample, lentNco}
 use Rattle.set.specs.declared.Set.{Set}
-use Rattle.set.proofs.Answers.{new-answers, feed-answers, advance-time-answers, force-data-mode-answers, process-out-answers, ring-number-answers}
+use Rattle.set.proofs.Answers.{new-answers, feed-answers, feed-all-answers, advance-time-answers, force-data-mode-answers, process-out-answers, ring-number-answers}
 use Rattle.cue.proofs.Answers.{cue-answers}
 use Rattle.set.specs.declared.Refusal.{Refusal}
-use Rattle.set.specs.declared.Refusal.the-variants.{Accepted, Rate, Outbox, Length, Connected, Unsound}
+use Rattle.set.specs.declared.Refusal.the-variants.{Accepted, Rate, Outbox, Length, Connected, Unsound, StringLength, StringRoom}
 use Rattle.set.specs.Refusals.{refusalNumber}
 use Rattle.cue.specs.declared.Refusal as cueRefusal
 use Rattle.cue.specs.declared.Refusal.the-variants as cue
@@ -48,6 +48,8 @@ never-4 Outbox e = omega arith
 never-4 Length e = omega arith
 never-4 Connected e = omega arith
 never-4 Unsound e = omega arith
+never-4 StringLength e = omega arith
+never-4 StringRoom e = omega arith
 
 cue-never-4 : (refusal : cueRefusal.Refusal) → cueRefusalNumber refusal ≡ 4 → ⊥
 cue-never-4 cue.Accepted e = omega arith
@@ -60,6 +62,7 @@ answers s =
     record {
       creation = λ r. (tt, new-answers r);
       typing = λ byte carrier κs out. (tt, feed-answers s byte carrier κs out);
+      string = λ κs bytes carrier out codes. (tt, feed-all-answers s κs bytes carrier out codes);
       time = λ ns carrier. (tt, advance-time-answers s ns carrier);
       forcing = (tt, force-data-mode-answers s);
       filling = λ κs out. (tt, process-out-answers s κs out);

@@ -19,18 +19,21 @@ use Rattle.set.specs.declared.Set.{Set}
 use Rattle.set.specs.declared.Refusal.{Refusal}
 use Rattle.set.specs.declared.Made.{Made}
 use Rattle.set.specs.declared.Typed.{Typed}
+use Rattle.set.specs.declared.TypedAll.{TypedAll}
 use Rattle.set.specs.declared.Lapsed.{Lapsed}
 use Rattle.set.specs.declared.Forced.{Forced}
 use Rattle.set.specs.declared.Filled.{Filled}
 use Rattle.set.specs.declared.Rung.{Rung}
 use Rattle.set.specs.Refusals.{refusalNumber, Declined}
 use Rattle.set.specs.Set.{freshSet, creationCause, typingCause, lapseCause, forcedCause, fillCause, ringCause}
-use Rattle.set.specs.Event.{typedEvent, lapsedEvent, forcedEvent, filledEvent, Event, Unchanged, ByCause}
+use Rattle.set.specs.String.{stringCause}
+use Rattle.set.specs.Event.{typedEvent, lapsedEvent, forcedEvent, filledEvent, Event, Unchanged, ByCause, stringEvent, StringEvent, StringUnchanged, StringByCause}
 use Rattle.cue.specs.declared.Cued.{Cued}
 use Rattle.cue.specs.declared.Refusal as cueRefusal
 use Rattle.cue.specs.Cue.{cueRefusalNumber, cueCause}
 use Rattle.set.proofs.Set.new.Reads as new
 use Rattle.set.proofs.Set.feed.Reads as feed
+use Rattle.set.proofs.Set.feed_all.Reads as feed-all
 use Rattle.set.proofs.Set.advance_time.Reads as advance-time
 use Rattle.set.proofs.Set.force_data_mode.Reads as force-data-mode
 use Rattle.set.proofs.Set.process_out.Reads as process-out
@@ -62,6 +65,27 @@ module _ {s : Set} {cause : Refusal} {e : Event} (b : ByCause s cause e) where
     pub declined-sent : e .sent ≡ 0
     declined-sent = unchanged .sent
 
+-- and a string by its own
+module _ {s : Set} {cause : Refusal} {e : StringEvent} (b : StringByCause s cause e) where
+  pub string-refusal-is : e .answer .refusal ≡ cause
+  string-refusal-is = b .refusal
+
+  module _ (declined : refusalNumber (e .answer .refusal) ≡ 0 → ⊥) where
+    string-unchanged : StringUnchanged s e
+    string-unchanged = b .unchanged declined
+
+    pub declined-string-set : e .answer .set ≡ s
+    declined-string-set = string-unchanged .set
+
+    pub declined-string-outbox : e .outboxLeft ≡ e .outbox
+    declined-string-outbox = string-unchanged .outbox
+
+    pub declined-string-codes : e .codesLeft ≡ e .codes
+    declined-string-codes = string-unchanged .codes
+
+    pub declined-string-sent : e .answer .sent ≡ 0
+    declined-string-sent = string-unchanged .sent
+
 -- of every set
 module _ (s : Set) (r : Bool) (d : is-sound.Learnt tt (s, tt) r (s, tt)) where
   pub reads-sound : r ≡ sound s
@@ -81,6 +105,15 @@ module _ (s : Set) (r : Bool) (d : is-sound.Learnt tt (s, tt) r (s, tt)) where
       × ((left : List ℕ) (answer : Typed) → feed.Learnt κs (s, (byte, (carrier, (out, tt)))) answer (s, (byte, (carrier, (at-last out left, tt))))
       → ByCause s (typingCause s (length (now out))) (typedEvent byte carrier (now out) left answer))
   typing-answers = told .typing
+
+  pub string-answers : (κs : Lfts 3) (bytes : RefT (List ℕ)) (carrier : Bool) (out codes : RefT (List ℕ))
+      → feed-all.Asked κs (s, (bytes, (carrier, (out, (codes, tt)))))
+      × ((left codesLeft : List ℕ) (answer : TypedAll)
+      → feed-all.Learnt κs (s, (bytes, (carrier, (out, (codes, tt))))) answer
+      (s, (bytes, (carrier, (at-last out left, (at-last codes codesLeft, tt)))))
+      → StringByCause s (stringCause s (length (now bytes)) (length (now out)) (length (now codes)))
+      (stringEvent (now bytes) carrier (now out) left (now codes) codesLeft answer))
+  string-answers = told .string
 
   pub time-answers : (ns : ℕ) (carrier : Bool)
       → advance-time.Asked tt (s, (ns, (carrier, tt)))

@@ -18,6 +18,7 @@ use Rattle.reply.specs.Texts.{textOf}
 use Rattle.set.specs.declared.Set.{Set}
 use Rattle.set.specs.declared.Made.{Made}
 use Rattle.set.specs.declared.Typed.{Typed}
+use Rattle.set.specs.declared.TypedAll.{TypedAll}
 use Rattle.set.specs.declared.Lapsed.{Lapsed}
 use Rattle.set.specs.declared.Forced.{Forced}
 use Rattle.set.specs.declared.Filled.{Filled}
@@ -25,12 +26,14 @@ use Rattle.set.specs.declared.Rung.{Rung}
 use Rattle.set.specs.declared.Refusal.{Refusal}
 use Rattle.set.specs.Refusals.{refusalNumber, Declined}
 use Rattle.set.specs.Set.{freshSet, creationCause, typingCause, lapseCause, forcedCause, fillCause, ringCause}
-use Rattle.set.specs.Event.{typedEvent, lapsedEvent, forcedEvent, filledEvent, ByCause}
+use Rattle.set.specs.String.{stringCause}
+use Rattle.set.specs.Event.{typedEvent, lapsedEvent, forcedEvent, filledEvent, ByCause, stringEvent, StringByCause}
 use Rattle.cue.specs.declared.Cued.{Cued}
 use Rattle.cue.specs.declared.Refusal as cueRefusal
 use Rattle.cue.specs.Cue.{cueRefusalNumber, cueCause}
 use Rattle.set.proofs.Set.new.Reads as new
 use Rattle.set.proofs.Set.feed.Reads as feed
+use Rattle.set.proofs.Set.feed_all.Reads as feed-all
 use Rattle.set.proofs.Set.advance_time.Reads as advance-time
 use Rattle.set.proofs.Set.force_data_mode.Reads as force-data-mode
 use Rattle.set.proofs.Set.process_out.Reads as process-out
@@ -48,6 +51,14 @@ pub record Answers (s : Set) : Type 0 where
       → feed.Asked κs (s, (byte, (carrier, (out, tt))))
       × ((left : List ℕ) (answer : Typed) → feed.Learnt κs (s, (byte, (carrier, (out, tt)))) answer (s, (byte, (carrier, (at-last out left, tt))))
       → ByCause s (typingCause s (length (now out))) (typedEvent byte carrier (now out) left answer))
+  -- 02, E3: a string
+  pub string : (κs : Lfts 3) (bytes : RefT (List ℕ)) (carrier : Bool) (out codes : RefT (List ℕ))
+      → feed-all.Asked κs (s, (bytes, (carrier, (out, (codes, tt)))))
+      × ((left codesLeft : List ℕ) (answer : TypedAll)
+      → feed-all.Learnt κs (s, (bytes, (carrier, (out, (codes, tt))))) answer
+      (s, (bytes, (carrier, (at-last out left, (at-last codes codesLeft, tt)))))
+      → StringByCause s (stringCause s (length (now bytes)) (length (now out)) (length (now codes)))
+      (stringEvent (now bytes) carrier (now out) left (now codes) codesLeft answer))
   pub time : (ns : ℕ) (carrier : Bool)
       → advance-time.Asked tt (s, (ns, (carrier, tt)))
       × ((answer : Lapsed) → advance-time.Learnt tt (s, (ns, (carrier, tt))) answer (s, (ns, (carrier, tt)))

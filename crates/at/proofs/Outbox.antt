@@ -9,13 +9,14 @@ use mathlib.Core.List.{List, _++_, append-assoc}
 use mathlib.Core.Bool.{Bool, true, false}
 use lib.ListN.{length, drop, set, replicate, length-append, length-replicate}
 use lib.Seq.{drop-cons, set-at}
+use borrow.Author.Tests.{lt-ltb}
 use Rattle.ascii.specs.Front.{put}
 use Rattle.ascii.proofs.Front.{put-fits, put-none, put-short}
 use Rattle.at.specs.declared.AtProcessor.{AtProcessor}
 use Rattle.at.specs.declared.Fed.{Fed}
-use Rattle.at.specs.Processor.{pluses, sound}
-use Rattle.at.specs.Escape.{withheld, plusesThen, released}
-use Rattle.at.specs.At.{typedByte, sent}
+use Rattle.at.specs.Processor.{commandMode, pluses, sound}
+use Rattle.at.specs.Escape.{withheld, plusesThen, released, dataByte}
+use Rattle.at.specs.At.{typedByteIf, typedByte, sent}
 use Rattle.at.proofs.Bytes.{Typed, dropped, ends, grows, waits, sends, declined, typed-byte}
 use Rattle.at.proofs.Sound.{parts}
 
@@ -70,3 +71,16 @@ sent-count p byte carrier room e l = counted (parts p e .ranges .held) l (typed-
 -- and they stand at its front, the later bytes as they were
 pub sent-first : (p : AtProcessor) (byte : ℕ) (was : List ℕ) → sound p ≡ true → 4 ≤ length was → put (sent p byte) was ≡ sent p byte ++ drop (length (sent p byte)) was
 sent-first p byte was e l = put-fits (sent p byte) was (omega (arith, at-most-four p byte e))
+
+-- and longer than that its length changes nothing
+module _ (p : AtProcessor) (good : sound p ≡ true) (byte : ℕ) (carrier : Bool) (room : ℕ) (l : 4 ≤ room) where
+  room-by : (mode : Bool) → typedByteIf mode p byte carrier room ≡ typedByteIf mode p byte carrier 4
+  unfolding dataByte
+  room-by true = refl
+  room-by false =
+      let held = parts p good .ranges .held in
+      rw (lt-ltb (pluses p) room (omega (arith, held)), lt-ltb (pluses p) 4 (omega (arith, held)))
+
+  pub room-alike : typedByte p byte carrier room ≡ typedByte p byte carrier 4
+  unfolding typedByte
+  room-alike = room-by (commandMode p)

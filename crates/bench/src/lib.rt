@@ -129,6 +129,24 @@ pub extern "C" fn bench_bytes(rate: u32, digits: &[u8], skip: usize, turns: u64)
     sent as u64
 }
 
+// Strings of eleven bytes typed in data mode; answers how many the last one sent.
+#[no_mangle]
+pub extern "C" fn bench_strings(rate: u32, digits: &[u8], skip: usize, turns: u64) -> u64 {
+    let mut s = played(rate, digits, skip);
+    let mut outbox = [0u8; 44];
+    let mut codes = [0u8; 22];
+    let mut sent: usize = 0;
+    let mut i: u64 = 0;
+    while i < turns {
+        let t = s.feed_all(b"ATDT5551234", true, &mut outbox, &mut codes);
+        let next = t.set;
+        sent = t.sent;
+        s = next;
+        i += 1;
+    }
+    sent as u64
+}
+
 fn one_if(b: bool) -> u64
     ensures { λ r. ⌜ r ≤ 1 ⌝ }
 {

@@ -1,5 +1,5 @@
 // The calls that no other program makes: the writer of replies, the digits' reader, the lent oscillator,
-// and every call on sets that are not sound; and the cue. Buffers are dots, or samples of 1.23, before
+// and every call on sets that are not sound; the cue, and strings. Buffers are dots, or samples of 1.23, before
 // each call, and are printed whole after it.
 mod lent;
 mod sets;
@@ -10,6 +10,7 @@ fn main() {
     replies();
     cues();
     declined();
+    strings();
     lent::oscillators();
     unsound::processors();
     unsound::sessions();
@@ -46,6 +47,33 @@ fn cues() {
     tried::cue(b"at 192000", sets::dialled(192000), 1);
     tried::digits(b"dialled 12", set);
     tried::digits(b"fresh", sets::fresh(8000));
+}
+
+// Strings with room for two bytes, or for four; codes are in hexadecimal.
+fn strings() {
+    let long = [b'1'; 257];
+    let set = sets::fresh(8000);
+    tried::string(b"no string", set, b"", 0, 0);
+    tried::string(b"string of 2", set, b"A\r", 8, 4);
+    tried::string(b"string of 4", set, b"ATH\r", 16, 8);
+    tried::string(b"string after three pluses", sets::pluses(3), b"+x", 8, 4);
+    tried::string(b"string and an outbox of 7", set, b"A\r", 7, 4);
+    tried::string(b"string and 3 codes", set, b"A\r", 8, 3);
+    tried::string(b"string of 257", set, &long, 16, 8);
+    tried::string(
+        b"string of 257 for a line of 81",
+        sets::line(81, false),
+        &long,
+        16,
+        8,
+    );
+    tried::string(
+        b"no string for a line of 81",
+        sets::line(81, false),
+        b"",
+        0,
+        0,
+    );
 }
 
 // The calls of sound sets that are declined.

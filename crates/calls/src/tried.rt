@@ -7,6 +7,7 @@ pub fn calls(name: &[u8], set: Set) {
     let mut page = [0u8; 512];
     let mut k = text::put(&mut page, 0, name);
     k = put_typed(&mut page, k, set, b'1', 8);
+    k = put_string(&mut page, k, set, b"1\n", 16, 8);
     k = put_time(&mut page, k, set);
     k = put_forced(&mut page, k, set);
     k = put_filled(&mut page, k, set);
@@ -69,6 +70,17 @@ pub(crate) fn typed(name: &[u8], set: Set, byte: u8, n: usize)
     end(&mut page, k);
 }
 
+// The outbox's first `n` bytes and the code buffer's first `m` are lent.
+pub(crate) fn string(name: &[u8], set: Set, string: &[u8], n: usize, m: usize)
+    requires { ⌜ n ≤ 16 ⌝ }
+    requires { ⌜ m ≤ 8 ⌝ }
+{
+    let mut page = [0u8; 256];
+    let mut k = text::put(&mut page, 0, name);
+    k = put_string(&mut page, k, set, string, n, m);
+    end(&mut page, k);
+}
+
 // A fill of 65,537 samples: the hash is that of the buffer as it was.
 pub fn fill_long(set: Set) {
     let mut page = [0u8; 128];
@@ -96,6 +108,38 @@ fn put_typed(page: &mut [u8], at: usize, set: Set, byte: u8, n: usize) -> usize
     k = put_number(page, k, b" ", reply.second() as u64);
     k = put_number(page, k, b" sent ", answer.sent as u64);
     put_outbox(page, k, &outbox)
+}
+
+fn put_string(page: &mut [u8], at: usize, set: Set, string: &[u8], n: usize, m: usize) -> usize
+    requires { ⌜ n ≤ 16 ⌝ }
+    requires { ⌜ m ≤ 8 ⌝ }
+{
+    let mut outbox = [b'.'; 16];
+    let mut codes = [b'.'; 8];
+    let from: usize = 0;
+    let answer = set.feed_all(string, false, &mut outbox[from..n], &mut codes[from..m]);
+    let refusal = answer.refusal;
+    let mut k = put_number(page, at, b" string ", refusal.number() as u64);
+    k = put_number(page, k, b" sent ", answer.sent as u64);
+    k = put_sends(page, k, &outbox);
+    put_codes(page, k, codes)
+}
+
+fn put_sends(page: &mut [u8], at: usize, outbox: &[u8; 16]) -> usize {
+    put_word(page, at, outbox)
+}
+
+fn put_codes(page: &mut [u8], at: usize, codes: [u8; 8]) -> usize {
+    let k = text::put(page, at, b" codes ");
+    let l = put_four(page, k, codes[0], codes[1], codes[2], codes[3]);
+    put_four(page, l, codes[4], codes[5], codes[6], codes[7])
+}
+
+fn put_four(page: &mut [u8], at: usize, a: u8, b: u8, c: u8, d: u8) -> usize {
+    let mut k = text::put_hex(page, at, wide(a), 2);
+    k = text::put_hex(page, k, wide(b), 2);
+    k = text::put_hex(page, k, wide(c), 2);
+    text::put_hex(page, k, wide(d), 2)
 }
 
 fn put_time(page: &mut [u8], at: usize, set: Set) -> usize {

@@ -1,9 +1,9 @@
--- The claim over every list of calls, from what each call's own contract tells. The set is at every point the one that the book stands for; the
--- book, and what came since the dial line, are carried from the left. Assumes nothing.
+-- What is claimed of every list of single calls, from what each call's own contract tells. The set is at every point the one that the book stands
+-- for; the book, and what came since the dial line, are carried from the left. Assumes nothing.
 use Prim.Native.Nat.{ℕ, _+_, _≤_, _<_}
 use native.Mathlib.Omega.{arith}
 use mathlib.Core.Path.{_≡_, refl, sym, ap, _∙_}
-use mathlib.Core.Bool.{Bool, true, false, true≢false}
+use mathlib.Core.Bool.{true, false, true≢false}
 use mathlib.Core.List.{List, [], _∷_, map}
 use mathlib.Core.Logic.{_⊎_, inl, inr, ⊎-elim, _↔_}
 use lib.ListN.{length}
@@ -16,7 +16,7 @@ use Rattle.session.specs.declared.SessionState.{SessionState}
 use Rattle.session.specs.declared.SessionState.the-variants.{Idle, Dialling, Answering, Connected}
 use Rattle.session.specs.Session.{stateNumber, idle}
 use Rattle.set.specs.declared.Set.{Set}
-use Rattle.set.specs.Refusals.{refusalNumber, causeOfCreation, accepted, ifAccepted}
+use Rattle.set.specs.Refusals.{refusalNumber}
 use Rattle.set.specs.Sound.{sound}
 use Rattle.set.specs.Set as set
 use Rattle.set.specs.Book.{Book, blank, overture, lengthOf, entryOf, entered}
@@ -25,7 +25,7 @@ use Rattle.set.proofs.Soundness.{fresh-sound}
 use Rattle.set.proofs.Follows.{Follows, Invariant}
 use Rattle.set.proofs.Steps.{Stepped, feed-steps, advance-time-steps, force-data-mode-steps, process-out-steps}
 use Rattle.claim.specs.Trace.{Did, typed, lapsed, forced, filled, Trace, setAfter}
-use Rattle.claim.specs.Claim.{SinceDial, notCalled, sinceNext, NeverBack, Answered, AllAnswered, callOf, bookAfter, sinceAfter, bitsOf, Played, Claim}
+use Rattle.claim.specs.Claim.{SinceDial, notCalled, sinceNext, NeverBack, Answered, AllAnswered, callOf, bookAfter, sinceAfter, bitsOf, Played}
 use Rattle.claim.proofs.Consistent.{Progress, Consistent, room-left, never-6, entry-consistent, blank-consistent}
 
 -- what each call's own contract tells
@@ -129,20 +129,3 @@ module _ (r : ℕ) (ok : rateOk r ≡ true) where
         sound = fresh-sound r ok;
         consistent = blank-consistent r;
       }
-
-  pub fresh-runs : (es : List Event) → Trace (set.freshSet r) es → Runs r (set.freshSet r) blank notCalled es
-  fresh-runs es t = run (set.freshSet r) blank notCalled fresh-invariant es t
-
-  fresh-holds : Claim (set.freshSet r)
-  fresh-holds es t =
-      let q = fresh-runs es t in
-      record { answered = q .answered; played = λ called. played _ _ _ (q .last) called }
-
--- a set that creation hands out is fresh at a rate in limits
-pub claim : (rate : ℕ) → Claim (set.made rate .set)
-unfolding set.made set.creationCause rateOk accepted
-claim rate = go (rateOk rate) refl
-  where
-    go : (t : Bool) → rateOk rate ≡ t → Claim (set.freshSet (ifAccepted (causeOfCreation t) rate 8000))
-    go true ok = fresh-holds rate ok
-    go false ok = fresh-holds 8000 refl

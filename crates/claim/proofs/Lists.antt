@@ -1,18 +1,23 @@
--- The claim is not empty: every list of calls, whatever is lent to them, has a trace, from every set. By the calls' definitions. Traces can be
--- joined, and what is noted over a list is what is noted over its parts. Assumes nothing.
+-- The claim is not empty: every list of calls, strings among them and whatever is lent to them, can be made, from every set. By the calls'
+-- definitions. Assumes nothing.
 use Prim.Native.Nat.{ℕ}
 use mathlib.Core.Path.{_≡_, refl, ap}
-use mathlib.Core.List.{List, [], _∷_, _++_, map}
+use mathlib.Core.Bool.{Bool, true}
+use mathlib.Core.List.{List, [], _∷_, _++_}
 use contract.Lifetimes.{Lfts}
-use denote.Ref.{RefT, now}
 use lib.Ieee.{Float, binary32, ofBits}
 use lib.ListN.{length, replicate, length-replicate}
 use Rattle.set.specs.declared.Set.{Set}
+use Rattle.set.specs.Refusals.{ifAccepted}
 use Rattle.set.specs.Set as set
-use Rattle.set.specs.Book.{Call, typing, time, forcing, filling, Book, entered}
-use Rattle.set.specs.Event.{Event, typedEvent, lapsedEvent, forcedEvent, filledEvent}
-use Rattle.claim.specs.Trace.{Did, typed, lapsed, forced, filled, Trace, setAfter}
-use Rattle.claim.specs.Claim.{SinceDial, sinceNext, callOf, bookAfter, sinceAfter}
+use Rattle.set.specs.String.{causeByLengths, typedAll, outboxAll, codesAll}
+use Rattle.set.specs.Book.{Call, typing, time, forcing, filling}
+use Rattle.set.specs.Event.{Event, typedEvent, lapsedEvent, forcedEvent, filledEvent, stringEvent}
+use Rattle.claim.specs.Trace.{Did, typed, lapsed, forced, filled}
+use Rattle.claim.specs.Claim.{callOf}
+use Rattle.claim.specs.Strings as step
+use Rattle.claim.specs.Strings.{Step, setOf, Happened, called, History, typings, callsOf, allCalls}
+use Rattle.claim.proofs.Strings.{lent}
 
 -- what is lent to a call that asks for so many bytes or so many samples
 pub record Lender : Type 0 where
@@ -29,9 +34,6 @@ zeros =
       samples = λ n. replicate n (ofBits binary32 0);
       all-samples = λ n. length-replicate n (ofBits binary32 0);
     }
-
-abbrev pub lent : {X : Type 0} → List X → RefT (List X)
-lent values = record { ptr = (0, 0); name = 0; now = values }
 
 -- ---- what comes of a call, made on the set s
 pub record Made (s : Set) (call : Call) : Type 0 where
@@ -58,47 +60,48 @@ makes κs l s (filling b) =
       asked = ap filling (l .all-samples b);
     }
 
--- ---- and of a list of them
-pub record Act : Type 0 where
-  pub call : Call
-  pub lender : Lender
+-- ---- and of a list of them, strings among them
+pub data Act : Type 0 where
+  single : (call : Call) (lender : Lender) → Act
+  string : (bytes : List ℕ) (carrier : Bool) (outbox codes : List ℕ) → Act
 
-abbrev pub asked : Act → Call
-asked act = act .call
+-- what it counts as
+abbrev pub askedBy : Act → List Call
+askedBy (single call lender) = call ∷ []
+askedBy (string bytes carrier outbox codes) =
+    ifAccepted (causeByLengths true (length bytes) (length outbox) (length codes)) (typings bytes carrier) []
+
+abbrev pub allAsked : List Act → List Call
+allAsked [] = []
+allAsked (act ∷ acts) = askedBy act ++ allAsked acts
+
+pub record Acted (s : Set) (act : Act) : Type 0 where
+  pub step : Step
+  pub happened : Happened s step
+  pub asked : callsOf step ≡ askedBy act
+
+pub acts-on : Lfts 3 → (s : Set) (act : Act) → Acted s act
+acts-on κs s (single call lender) =
+    let one = makes (κs .0, tt) lender s call in
+    record { step = step.single (one .event); happened = called (one .event) (one .did); asked = ap (λ (call : Call). call ∷ []) (one .asked) }
+acts-on κs s (string bytes carrier outbox codes) =
+    let answer = typedAll s bytes carrier (length outbox) (length codes) in
+    let left = outboxAll s bytes carrier outbox (length codes) in
+    let codesLeft = codesAll s bytes carrier (length outbox) codes in
+    record {
+      step = step.string (stringEvent bytes carrier outbox left codes codesLeft answer);
+      happened = step.typedAll κs (lent bytes) carrier (lent outbox) (lent codes) left codesLeft answer tt (refl, (refl, refl));
+      asked = refl;
+    }
 
 pub record Listed (s : Set) (acts : List Act) : Type 0 where
-  pub events : List Event
-  pub trace : Trace s events
-  pub asked : map callOf events ≡ map asked acts
+  pub steps : List Step
+  pub history : History s steps
+  pub asked : allCalls steps ≡ allAsked acts
 
-pub every-list : (κs : Lfts 1) (s : Set) (acts : List Act) → Listed s acts
-every-list κs s [] = record { events = []; trace = tt; asked = refl }
+pub every-list : (κs : Lfts 3) (s : Set) (acts : List Act) → Listed s acts
+every-list κs s [] = record { steps = []; history = tt; asked = refl }
 every-list κs s (act ∷ acts) =
-    let one = makes κs (act .lender) s (act .call) in
-    let rest = every-list κs (one .event .set) acts in
-    record { events = one .event ∷ rest .events; trace = (one .did, rest .trace); asked = rw (one .asked, rest .asked) }
-
-abbrev pub lendingZeros : Call → Act
-lendingZeros call = record { call = call; lender = zeros }
-
-pub all-asked : (calls : List Call) → map asked (map lendingZeros calls) ≡ calls
-all-asked [] = refl
-all-asked (call ∷ calls) = ap (λ (rest : List Call). call ∷ rest) (all-asked calls)
-
--- ---- a list after a list
-pub trace-joined : (s : Set) (es fs : List Event) → Trace s es → Trace (setAfter s es) fs → Trace s (es ++ fs)
-trace-joined s [] fs t u = u
-trace-joined s (e ∷ es) fs (did, t) u = (did, trace-joined (e .set) es fs t u)
-
-pub set-joined : (s : Set) (es fs : List Event) → setAfter s (es ++ fs) ≡ setAfter (setAfter s es) fs
-set-joined s [] fs = refl
-set-joined s (e ∷ es) fs = set-joined (e .set) es fs
-
-pub book-joined : (r : ℕ) (k : Book) (before later : List Call) → bookAfter r k (before ++ later) ≡ bookAfter r (bookAfter r k before) later
-book-joined r k [] later = refl
-book-joined r k (call ∷ before) later = book-joined r (entered r k call) before later
-
-pub since-joined : (r : ℕ) (k : Book) (h : SinceDial) (es fs : List Event)
-    → sinceAfter r k h (es ++ fs) ≡ sinceAfter r (bookAfter r k (map callOf es)) (sinceAfter r k h es) fs
-since-joined r k h [] fs = refl
-since-joined r k h (e ∷ es) fs = since-joined r (entered r k (e .call)) (sinceNext r k h e) es fs
+    let one = acts-on κs s act in
+    let rest = every-list κs (setOf (one .step)) acts in
+    record { steps = one .step ∷ rest .steps; history = (one .happened, rest .history); asked = rw (one .asked, rest .asked) }

@@ -1,7 +1,7 @@
 -- Demand 3 read off the contract of `start`, each part at its full strength, so that a contract or a claim that says less is refused here: of
--- every call of a list what it answers, and at the list's end what came of the dial line. Assumes nothing.
+-- every call of a list what it answers, of a string what it counts as, and at the list's end what came of the dial line. Assumes nothing.
 use Prim.Native.Nat.{ℕ, _+_, _≤_, _<_}
-use mathlib.Core.Path.{_≡_, refl, subst}
+use mathlib.Core.Path.{_≡_, refl, sym, subst}
 use mathlib.Core.Bool.{true}
 use mathlib.Core.List.{List, [], _∷_, _++_, map}
 use mathlib.Core.Logic.{_⊎_, _↔_}
@@ -20,16 +20,20 @@ use Rattle.set.specs.declared.Refusal.{Refusal}
 use Rattle.set.specs.Refusals.{refusalNumber}
 use Rattle.set.specs.Set.{made}
 use Rattle.set.specs.Book.{Book, declined, asks, blank, overture, lengthOf, declinedWith, entered}
-use Rattle.set.specs.Event.{Event, Unchanged}
+use Rattle.set.specs.Event.{Event, Unchanged, StringEvent, StringUnchanged}
 use Rattle.claim.specs.Trace.{Trace, setAfter}
-use Rattle.claim.specs.Claim.{SinceDial, notCalled, notedFill, noted, AllAtMost, NeverBack, Reports, Answered, AllAnswered, callOf, bookAfter, sinceAfter, Played, Claim}
+use Rattle.claim.specs.Claim.{SinceDial, notCalled, notedFill, noted, AllAtMost, NeverBack, Reports, Answered, AllAnswered, bookAfter, sinceAfter, Played}
+use Rattle.claim.specs.Strings.{Step, single, string, setOf, History, lastSet, causeOf, singles, allSingles, callsOf, allCalls, StringAnswered, StepAnswered, AllStepsAnswered, Claim}
+use Rattle.claim.proofs.Joined.{book-joined}
 use Rattle.claim.proofs.start.Reads as start
 
--- a call in the middle of a list
-at-call : (r : ℕ) (s : Set) (k : Book) (es : List Event) (e : Event) (later : List Event) → AllAnswered r s k (es ++ e ∷ later)
-    → Answered r (setAfter s es) (bookAfter r k (map callOf es)) e
-at-call r s k [] e later (answered, rest) = answered
-at-call r s k (x ∷ es) e later (answered, rest) = at-call r (x .set) (entered r k (x .call)) es e later rest
+-- a step in the middle of a list
+at-step : (r : ℕ) (s : Set) (k : Book) (xs : List Step) (x : Step) (later : List Step) → AllStepsAnswered r s k (xs ++ x ∷ later)
+    → StepAnswered r (lastSet s xs) (bookAfter r k (allCalls xs)) x
+at-step r s k [] x later (answered, rest) = answered
+at-step r s k (y ∷ xs) x later (answered, rest) =
+    subst (λ (k : Book). StepAnswered r (lastSet (setOf y) xs) k x) (sym (book-joined r k (callsOf y) (allCalls xs)))
+    (at-step r (setOf y) (bookAfter r k (callsOf y)) xs x later rest)
 
 -- of two stages shown the newer is not the lower one
 not-lower : (newer : List ℕ) (y : ℕ) (between : List ℕ) (x : ℕ) (older : List ℕ) → NeverBack (newer ++ y ∷ between ++ x ∷ older) → x ≤ y
@@ -51,12 +55,12 @@ module _ (rate : ℕ) (answer : Made) (d : start.Learnt tt (rate, tt) answer (ra
   claim : Claim s
   claim = d .1
 
-  module _ (es : List Event) (e : Event) (later : List Event) (t : Trace s (es ++ e ∷ later)) where
+  module _ (xs : List Step) (e : Event) (later : List Step) (t : History s (xs ++ single e ∷ later)) where
     abbrev before : Book
-    before = bookAfter (s .rate) blank (map callOf es)
+    before = bookAfter (s .rate) blank (allCalls xs)
 
-    answered : Answered (s .rate) (setAfter s es) before e
-    answered = at-call (s .rate) s blank es e later (claim (es ++ e ∷ later) t .answered)
+    answered : Answered (s .rate) (lastSet s xs) before e
+    answered = at-step (s .rate) s blank xs (single e) later (claim (xs ++ single e ∷ later) t .answered)
 
     pub number-is : refusalNumber (e .refusal) ≡ declinedWith before (e .call)
     number-is = answered .number
@@ -65,10 +69,10 @@ module _ (rate : ℕ) (answer : Made) (d : start.Learnt tt (rate, tt) answer (ra
     never-unsound = answered .sound
 
     module _ (declined : refusalNumber (e .refusal) ≡ 0 → ⊥) where
-      unchanged : Unchanged (setAfter s es) e
+      unchanged : Unchanged (lastSet s xs) e
       unchanged = answered .unchanged declined
 
-      pub declined-set : e .set ≡ setAfter s es
+      pub declined-set : e .set ≡ lastSet s xs
       declined-set = unchanged .set
 
       pub declined-lent : e .left ≡ e .lent
@@ -95,21 +99,74 @@ module _ (rate : ℕ) (answer : Made) (d : start.Learnt tt (rate, tt) answer (ra
     pub reports-stage : e .set .session .shown ≡ after .shown
     reports-stage = reports .stage
 
-  module _ (es : List Event) (t : Trace s es) (called : sinceAfter (s .rate) blank notCalled es .called ≡ true) where
+  -- a string: in limits it counts as its bytes
+  module _ (xs : List Step) (e : StringEvent) (later : List Step) (t : History s (xs ++ string e ∷ later)) where
+    abbrev string-before : Book
+    string-before = bookAfter (s .rate) blank (allCalls xs)
+
+    string-answered : StringAnswered (s .rate) (lastSet s xs) string-before e
+    string-answered = at-step (s .rate) s blank xs (string e) later (claim (xs ++ string e ∷ later) t .answered)
+
+    pub string-number-is : refusalNumber (e .answer .refusal) ≡ refusalNumber (causeOf e)
+    string-number-is = string-answered .number
+
+    pub string-never-unsound : refusalNumber (e .answer .refusal) ≡ 6 → ⊥
+    string-never-unsound = string-answered .sound
+
+    pub bytes-answered : AllAnswered (s .rate) (lastSet s xs) string-before (singles (lastSet s xs) (string e))
+    bytes-answered = string-answered .bytes
+
+    module _ (declined : refusalNumber (e .answer .refusal) ≡ 0 → ⊥) where
+      string-unchanged : StringUnchanged (lastSet s xs) e
+      string-unchanged = string-answered .unchanged declined
+
+      pub declined-string-set : e .answer .set ≡ lastSet s xs
+      declined-string-set = string-unchanged .set
+
+      pub declined-string-outbox : e .outboxLeft ≡ e .outbox
+      declined-string-outbox = string-unchanged .outbox
+
+      pub declined-string-codes : e .codesLeft ≡ e .codes
+      declined-string-codes = string-unchanged .codes
+
+      pub declined-string-sent : e .answer .sent ≡ 0
+      declined-string-sent = string-unchanged .sent
+
+    string-reports : Reports (e .answer .set) (bookAfter (s .rate) string-before (callsOf (string e)))
+    string-reports = string-answered .reports
+
+    pub string-reports-count : e .answer .set .session .m ≡ bookAfter (s .rate) string-before (callsOf (string e)) .count
+    string-reports-count = string-reports .count
+
+    pub string-reports-state : e .answer .set .session .state ≡ bookAfter (s .rate) string-before (callsOf (string e)) .state
+    string-reports-state = string-reports .state
+
+    pub string-reports-stage : e .answer .set .session .shown ≡ bookAfter (s .rate) string-before (callsOf (string e)) .shown
+    string-reports-stage = string-reports .stage
+
+  -- a list with strings is one without, that leads to the same set
+  module _ (xs : List Step) (t : History s xs) where
+    pub counts-singly : Trace s (allSingles s xs)
+    counts-singly = claim xs t .singly
+
+    pub same-set : setAfter s (allSingles s xs) ≡ lastSet s xs
+    same-set = claim xs t .same
+
+  module _ (xs : List Step) (t : History s xs) (called : sinceAfter (s .rate) blank notCalled (allSingles s xs) .called ≡ true) where
     abbrev digits : List ℕ
-    digits = bookAfter (s .rate) blank (map callOf es) .digits
+    digits = bookAfter (s .rate) blank (allCalls xs) .digits
 
     abbrev T : ℕ
     T = lengthOf digits (s .rate)
 
     abbrev last : Set
-    last = setAfter s es
+    last = lastSet s xs
 
     abbrev since : SinceDial
-    since = sinceAfter (s .rate) blank notCalled es
+    since = sinceAfter (s .rate) blank notCalled (allSingles s xs)
 
     played : Played (s .rate) last digits T since
-    played = claim es t .played called
+    played = claim xs t .played called
 
     pub has-length : HasLength digits (s .rate) T
     has-length = played .ends

@@ -1,5 +1,7 @@
--- A worked list: dial 12 at 8,000, fills of uneven lengths across stage edges, one of them empty, up to T, and an empty fill there. It meets the
--- claim's premises, and the line is up by the empty fill. The book is followed call by call; T's bounds place each fill. Assumes nothing.
+-- A worked list: dial 12 at 8,000 and play a little; escape, and in one string hang up and dial 12 again; then fills of uneven lengths across stage
+-- edges, one of them empty, up to T, and an empty fill there. It meets the claim's premises, what was played before the hang-up is not joined,
+-- and the line is up by the empty fill. The book is followed call by call; T's bounds place each fill. Assumes nothing.
+use Prim.Native.String.{String}
 use Prim.Native.Nat.{ℕ, suc, _+_, _-_, _*_, _≤_, _<_}
 use native.Mathlib.Omega.{arith}
 use native.Mathlib.Nat.{add-zero, add-suc}
@@ -9,6 +11,7 @@ use mathlib.Core.List.{List, [], _∷_, _++_, map}
 use mathlib.Core.Logic.{⊎-elim}
 use contract.Lifetimes.{Lfts}
 use lib.Dec.{eqb, lit≤}
+use lib.ListN.{length, replicate}
 use borrow.Author.Tests.{le-ltb, eq-eqb, ne-eqb}
 use Rattle.stage.specs.Stage.{stageNumber}
 use Rattle.schedule.proofs.Total.{total-bounds}
@@ -20,25 +23,35 @@ use Rattle.ascii.specs.Upper.{upper}
 use Rattle.keys.specs.Keys.{digitsOf, keysOf, isKey, keyRow}
 use Rattle.command.specs.Line.{pushed, uppercased}
 use Rattle.command.specs.Command.{begins, is, commandOf}
+use Rattle.at.specs.declared.AtProcessor.{AtProcessor}
+use Rattle.at.specs.Processor.{added}
 use Rattle.at.specs.Command.{executed}
-use Rattle.at.specs.At.{ended, commandByte, typedByte}
+use Rattle.at.specs.Escape.{withheld, dataByte, escaped, waited}
+use Rattle.at.specs.Carrier.{polled, downFor}
+use Rattle.at.specs.At.{ended, commandByte, typedByte, lapse}
 use Rattle.session.specs.declared.SessionState.{SessionState}
-use Rattle.session.specs.declared.SessionState.the-variants.{Dialling, Connected}
+use Rattle.session.specs.declared.SessionState.the-variants.{Idle, Dialling, Connected}
 use Rattle.session.specs.Session.{stateNumber}
 use Rattle.soundness.specs.Sound.{rateOk}
 use Rattle.set.specs.Refusals.{accepted}
 use Rattle.set.specs.Set.{freshSet}
-use Rattle.set.specs.Book.{Call, typing, filling, Book, blank, lengthOf, stageOfSample, shownBy, stateIf, afterFill, entryOf, entered}
-use Rattle.set.specs.Event.{Event}
-use Rattle.claim.specs.Trace.{Trace, setAfter}
-use Rattle.claim.specs.Claim.{SinceDial, notCalled, callOf, bookAfter, sinceAfter}
+use Rattle.set.specs.Book.{Call, time, filling, Book, blank, lengthOf, stageOfSample, shownBy, stateIf, afterFill, entryOf, entered}
+use Rattle.claim.specs.Claim.{SinceDial, notCalled, bookAfter, sinceAfter}
+use Rattle.claim.specs.Strings.{Step, History, lastSet, allSingles, typings, allCalls}
 use Rattle.claim.proofs.Consistent.{Up, Consistent}
-use Rattle.claim.proofs.Claim.{fresh-runs}
-use Rattle.claim.proofs.Lists.{lendingZeros, every-list, all-asked, book-joined}
+use Rattle.claim.proofs.Joined.{book-joined}
+use Rattle.claim.proofs.Strings.{fresh-runs}
+use Rattle.claim.proofs.Lists.{zeros, Act, single, string, allAsked, every-list}
 
--- ATDT12 and CR, each byte with an outbox of 4 bytes
+-- ATDT12 and CR, as a string and as what it counts as
+abbrev stringOf : String → Act
+stringOf text = string (ascii text) false (replicate (4 * length (ascii text)) 0) (replicate (2 * length (ascii text)) 0)
+
+abbrev typingsOf : String → List Call
+typingsOf text = typings (ascii text) false
+
 abbrev pub dial12 : List Call
-dial12 = map (λ (byte : ℕ). typing byte false 4) (ascii "ATDT12\r")
+dial12 = typingsOf "ATDT12\r"
 
 pub dialled : (bookAfter 8000 blank dial12 .state ≡ Dialling) × (bookAfter 8000 blank dial12 .digits ≡ ascii "12") × (bookAfter 8000 blank dial12 .count ≡ 0)
 unfolding entered entryOf typedByte commandByte ended pushed upper uppercased begins is commandOf executed digitsOf keysOf isKey keyRow accepted
@@ -87,6 +100,33 @@ fill-at up count b k a short e =
     let now : Book = record { processor = k .processor; state = Dialling; digits = ascii "12"; count = count; shown = k .shown } in
     rw (a .state-is, le-ltb 65536 b short, a .digits-are, a .count-is, e) (after-fill-at up _ (count + b) now refl)
 
+-- ---- a fill, the escape, and the string that hangs up and dials again
+abbrev playing : AtProcessor → ℕ → ℕ → Book
+playing p count shown = record { processor = p; state = Dialling; digits = ascii "12"; count = count; shown = shown }
+
+fill-is : (count b : ℕ) (k : Book) → At Dialling count k → b ≤ 65536 → eqb (shownBy (ascii "12") 8000 count b) 10 ≡ false
+    → entered 8000 k (filling b) ≡ playing (k .processor) (count + b) (shownBy (ascii "12") 8000 count b)
+unfolding entered entryOf accepted stateNumber
+fill-is count b k a short e = rw (a .state-is, le-ltb 65536 b short, a .digits-are, a .count-is, e)
+
+abbrev escape : List Call
+escape = time 1_000_000_000 false ∷ typingsOf "+++" ++ (time 1_000_000_000 false ∷ [])
+
+abbrev again : List Call
+again = escape ++ typingsOf "ATH\rATDT12\r"
+
+-- the processor after the first dial line
+abbrev online : AtProcessor
+online = bookAfter 8000 blank dial12 .processor
+
+hangs-up : (shown : ℕ) → bookAfter 8000 (playing online 401 shown) (escape ++ typingsOf "ATH\r") .state ≡ Idle
+unfolding entered entryOf typedByte commandByte ended pushed upper uppercased begins is commandOf executed digitsOf keysOf isKey keyRow accepted dataByte withheld lapse waited escaped polled downFor added
+hangs-up shown = refl
+
+dials-again : (shown : ℕ) → At Dialling 0 (bookAfter 8000 (playing online 401 shown) again)
+unfolding entered entryOf typedByte commandByte ended pushed upper uppercased begins is commandOf executed digitsOf keysOf isKey keyRow accepted dataByte withheld lapse waited escaped polled downFor added
+dials-again shown = record { state-is = refl; digits-are = refl; count-is = refl }
+
 -- across OffHook's end at 400, across DialTone's at 8,400, empty, up to Dialling's last sample, the longest, and all that is left; then empty at T
 abbrev pub fills : List Call
 fills =
@@ -100,7 +140,24 @@ fills =
     ∷ []
 
 abbrev pub calls : List Call
-calls = dial12 ++ fills
+calls = dial12 ++ (filling 401 ∷ again ++ fills)
+
+abbrev lendingZeros : Call → Act
+lendingZeros call = single call zeros
+
+abbrev pub acts : List Act
+acts =
+    stringOf "ATDT12\r"
+    ∷ lendingZeros (filling 401)
+    ∷ lendingZeros (time 1_000_000_000 false)
+    ∷ stringOf "+++"
+    ∷ lendingZeros (time 1_000_000_000 false)
+    ∷ stringOf "ATH\rATDT12\r"
+    ∷ map lendingZeros fills
+
+acts-ask : allAsked acts ≡ calls
+unfolding accepted
+acts-ask = refl
 
 -- up to the last fill the line is not up, and then it is
 module _ (k : Book) (a : At Dialling 0 k) where
@@ -130,22 +187,25 @@ module _ (k : Book) (a : At Dialling 0 k) where
 worked-book : At Connected T (bookAfter 8000 blank calls)
 worked-book =
     let start : At Dialling 0 (bookAfter 8000 blank dial12) = record { state-is = dialled .0; digits-are = dialled .1; count-is = dialled .2 } in
-    subst (At Connected T) (sym (book-joined 8000 blank dial12 fills)) (up-at-T (bookAfter 8000 blank dial12) start)
+    let first = fill-is 0 401 (bookAfter 8000 blank dial12) start (lit≤ tt) (not-ten 400 (omega (arith, T-near .0))) in
+    let redialled : At Dialling 0 (bookAfter 8000 (entered 8000 (bookAfter 8000 blank dial12) (filling 401)) again) = rw first (dials-again _) in
+    rw (book-joined 8000 blank dial12 (filling 401 ∷ again ++ fills), book-joined 8000 (entered 8000 (bookAfter 8000 blank dial12) (filling 401)) again fills)
+    (up-at-T _ redialled)
 
 -- ---- what comes of these calls on a set fresh at 8,000
-abbrev pub events : Lfts 1 → List Event
-events κs = every-list κs (freshSet 8000) (map lendingZeros calls) .events
+abbrev pub steps : Lfts 3 → List Step
+steps κs = every-list κs (freshSet 8000) acts .steps
 
-pub record Worked (κs : Lfts 1) : Type 0 where
-  pub trace : Trace (freshSet 8000) (events κs)
-  pub asked : map callOf (events κs) ≡ calls
+pub record Worked (κs : Lfts 3) : Type 0 where
+  pub history : History (freshSet 8000) (steps κs)
+  pub asked : allCalls (steps κs) ≡ calls
   -- the premise of the claim, with the digits 12
-  pub called : sinceAfter 8000 blank notCalled (events κs) .called ≡ true
-  pub digits : bookAfter 8000 blank (map callOf (events κs)) .digits ≡ ascii "12"
+  pub called : sinceAfter 8000 blank notCalled (allSingles (freshSet 8000) (steps κs)) .called ≡ true
+  pub digits : bookAfter 8000 blank (allCalls (steps κs)) .digits ≡ ascii "12"
   -- m = T, and the empty fill that came there has the line up
-  pub count : setAfter (freshSet 8000) (events κs) .session .m ≡ T
-  pub emptied : sinceAfter 8000 blank notCalled (events κs) .emptied ≡ true
-  pub up : setAfter (freshSet 8000) (events κs) .session .state ≡ Connected
+  pub count : lastSet (freshSet 8000) (steps κs) .session .m ≡ T
+  pub emptied : sinceAfter 8000 blank notCalled (allSingles (freshSet 8000) (steps κs)) .emptied ≡ true
+  pub up : lastSet (freshSet 8000) (steps κs) .session .state ≡ Connected
 
 module _ (count : ℕ) (h : SinceDial) (c : Up 8000 (ascii "12") count h) (e : count ≡ T) where
   emptied-at-T : h .emptied ≡ true
@@ -161,16 +221,16 @@ module _ (count : ℕ) (h : SinceDial) (c : Up 8000 (ascii "12") count h) (e : c
 progress-up : (k : Book) (h : SinceDial) → At Connected T k → Consistent 8000 k h → Up 8000 (ascii "12") (k .count) h
 progress-up k h a consistent = rw (a .state-is, a .digits-are) at (consistent .progress)
 
-pub worked : (κs : Lfts 1) → Worked κs
+pub worked : (κs : Lfts 3) → Worked κs
 unfolding rateOk
 worked κs =
-    let q = every-list κs (freshSet 8000) (map lendingZeros calls) in
-    let same : map callOf (events κs) ≡ calls = q .asked ∙ all-asked calls in
-    let book : At Connected T (bookAfter 8000 blank (map callOf (events κs))) = subst (λ (cs : List Call). At Connected T (bookAfter 8000 blank cs)) (sym same) worked-book in
-    let runs = fresh-runs 8000 refl (events κs) (q .trace) in
-    let progress : Up 8000 (ascii "12") (bookAfter 8000 blank (map callOf (events κs)) .count) (sinceAfter 8000 blank notCalled (events κs)) = progress-up _ _ book (runs .last .consistent) in
+    let q = every-list κs (freshSet 8000) acts in
+    let same : allCalls (steps κs) ≡ calls = q .asked ∙ acts-ask in
+    let book : At Connected T (bookAfter 8000 blank (allCalls (steps κs))) = subst (λ (cs : List Call). At Connected T (bookAfter 8000 blank cs)) (sym same) worked-book in
+    let runs = fresh-runs 8000 refl (steps κs) (q .history) in
+    let progress : Up 8000 (ascii "12") (bookAfter 8000 blank (allCalls (steps κs)) .count) (sinceAfter 8000 blank notCalled (allSingles (freshSet 8000) (steps κs))) = progress-up _ _ book (runs .last .consistent) in
     record {
-      trace = q .trace;
+      history = q .history;
       asked = same;
       called = progress .called;
       digits = book .digits-are;

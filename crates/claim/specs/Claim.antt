@@ -1,4 +1,4 @@
--- Demand 3 and 01, "The list of demand 3": the claim about every list of calls from a set fresh at the rate r.
+-- Demand 3 and 01, "The list of demand 3": what is claimed of a list of single calls from a set fresh at the rate r. Strings.antt has the claim.
 use Prim.Native.Nat.{ℕ, _+_, _≤_, _<_}
 use mathlib.Core.Path.{_≡_}
 use mathlib.Core.Bool.{Bool, true, false, _&&_, _||_}
@@ -15,9 +15,8 @@ use Rattle.schedule.specs.Bounds.{TotalBounds}
 use Rattle.passage.specs.Overture.{HasLength}
 use Rattle.set.specs.declared.Set.{Set}
 use Rattle.set.specs.Refusals.{refusalNumber, Declined}
-use Rattle.set.specs.Book.{Call, Book, blank, overture, lengthOf, Entry, declined, asks, fills, entryOf, declinedWith, entered}
+use Rattle.set.specs.Book.{Call, Book, overture, lengthOf, Entry, declined, asks, fills, entryOf, declinedWith, entered}
 use Rattle.set.specs.Event.{Event, Unchanged}
-use Rattle.claim.specs.Trace.{Trace, setAfter}
 
 -- ---- since the last dial line
 pub record SinceDial : Type 0 where
@@ -129,15 +128,3 @@ pub record Played (r : ℕ) (s : Set) (digits : List ℕ) (T : ℕ) (h : SinceDi
   pub stages : NeverBack (h .stages)
   -- the line is up exactly when m exceeds T or an empty fill has come since that dial line at m = T
   pub up : (s .session .state ≡ Connected) ↔ ((T < s .session .m) ⊎ (h .emptied ≡ true))
-
--- the claim about a set s that is fresh: whatever the list of calls from it
-pub record Holds (s : Set) (es : List Event) : Type 0 where
-  pub answered : AllAnswered (s .rate) s blank es
-  pub played :
-      sinceAfter (s .rate) blank notCalled es .called ≡ true
-      → Played (s .rate) (setAfter s es) (bookAfter (s .rate) blank (map callOf es) .digits)
-      (lengthOf (bookAfter (s .rate) blank (map callOf es) .digits) (s .rate))
-      (sinceAfter (s .rate) blank notCalled es)
-
-abbrev pub Claim : Set → Type 0
-Claim s = (es : List Event) → Trace s es → Holds s es

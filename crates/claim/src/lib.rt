@@ -3,7 +3,7 @@ use set::Made;
 use set::Set;
 ghost use mathlib.Core.Path.{_≡_};
 ghost use Rattle.set.specs.Set.{made};
-ghost use Rattle.claim.specs.Claim.{Claim};
+ghost use Rattle.claim.specs.Strings.{Claim};
 
 // A fresh set at a rate; at 8,000 where the rate is declined. Whatever calls follow, each on the
 // set that the one before returned, the claim holds of them.

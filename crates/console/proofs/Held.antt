@@ -8,7 +8,7 @@ use borrow.Author.Tests.{ltb-true, ltb-false, lt-ltb, le-ltb, lt-leb}
 use lib.Dec.{leb, ltb}
 use Rattle.console.specs.declared.lines.Call.the-variants.{Rate, Other}
 use Rattle.console.specs.declared.lines.Parser.{Parser}
-use Rattle.console.specs.Lines.{is, fillCall, fillIf, typedCall, typedIf, lapseCall, lapseIf, cueCall, cueIf, addedCall, oneCall, twoCall, threeCall}
+use Rattle.console.specs.Lines.{is, fillCall, fillIf, typedCall, typedIf, lapseCall, lapseIf, cueCall, cueIf, keptCall, keptIf, stringCall, stringIf, addedCall, oneCall, twoCall, threeCall}
 use Rattle.console.specs.Parser.{largest, digitOf, commaOf, commaIf, severalOf, answerOf, answerIf}
 
 abbrev pub capped : ℕ → ℕ
@@ -59,16 +59,22 @@ unfolding cueCall cueIf
 cue-capped (within e q) = rw q
 cue-capped {v} (past e h) = rw (lt-leb (capped v) 255 (omega arith), lt-leb v 255 (omega arith))
 
-added-capped : (isC : Bool) (v : ℕ) → addedCall isC (capped v) ≡ addedCall isC v
+kept-capped : {v : ℕ} → Size v → keptCall (capped v) ≡ keptCall v
+unfolding keptCall keptIf
+kept-capped (within e q) = rw q
+kept-capped {v} (past e h) = rw (lt-leb (capped v) 255 (omega arith), lt-leb v 255 (omega arith))
+
+added-capped : (isC isM : Bool) (v : ℕ) → addedCall isC isM (capped v) ≡ addedCall isC isM v
 unfolding addedCall
-added-capped true v = cue-capped (size v)
-added-capped false v = refl
+added-capped true isM v = cue-capped (size v)
+added-capped false true v = kept-capped (size v)
+added-capped false false v = refl
 
 one-capped : (isR isF x : Bool) (letter v : ℕ) → oneCall isR isF x letter (capped v) ≡ oneCall isR isF x letter v
 unfolding oneCall
 one-capped true isF x letter v = ap Rate (omega arith)
 one-capped false true x letter v = fill-capped x (size v)
-one-capped false false true letter v = added-capped (is "C" letter) v
+one-capped false false true letter v = added-capped (is "C" letter) (is "M" letter) v
 one-capped false false false letter v = refl
 
 -- ---- two and three numbers
@@ -96,10 +102,23 @@ two-second true isW n m h = typed-second n m 16 h
 two-second false true n m h = rw (lt-leb m 1 (omega arith), and-false (ltb n (2 ^ 64)))
 two-second false false n m h = refl
 
-three-other : (isT : Bool) (n m o : ℕ) → typedCall n m o ≡ Other → threeCall isT n m o ≡ Other
+string-first : (n m o : ℕ) → largest < n → stringCall n m o ≡ Other
+unfolding stringCall stringIf
+string-first n m o h = rw (lt-leb n 1 (omega arith))
+
+string-second : (n m o : ℕ) → largest < m → stringCall n m o ≡ Other
+unfolding stringCall stringIf
+string-second n m o h = rw (lt-leb m 1200 (omega arith), and-false (leb n 1))
+
+string-third : (n m o : ℕ) → largest < o → stringCall n m o ≡ Other
+unfolding stringCall stringIf
+string-third n m o h = rw (lt-leb o 1200 (omega arith), and-false (leb m 1200), and-false (leb n 1))
+
+three-other : (isT isS : Bool) (n m o : ℕ) → typedCall n m o ≡ Other → stringCall n m o ≡ Other → threeCall isT isS n m o ≡ Other
 unfolding threeCall
-three-other true n m o h = h
-three-other false n m o h = refl
+three-other true isS n m o h g = h
+three-other false true n m o h g = g
+three-other false false n m o h g = refl
 
 -- ---- what the parser answers, with one, two or three numbers
 pub answer-one : (x : Bool) (letter w l v : ℕ) (o : Bool) → answerOf (held x letter 1 false w l v o) ≡ oneCall (is "R" letter) (is "F" letter) x letter v
@@ -112,9 +131,9 @@ answer-two {n} {m} x letter w s (past f h) = rw f (sym (two-second (is "T" lette
 answer-two {n} {m} x letter w (past e h) (within f p) = rw (f, e) (sym (two-first (is "T" letter) (is "W" letter) n m h))
 answer-two x letter w (within e q) (within f p) = rw (f, e, q, p)
 
-pub answer-three : {n m v : ℕ} (x : Bool) (letter : ℕ) → Size n → Size m → Size v → answerOf (held x letter 3 false (capped n) (capped m) v (beyond m || (beyond n || false))) ≡ threeCall (x && is "T" letter) n m v
+pub answer-three : {n m v : ℕ} (x : Bool) (letter : ℕ) → Size n → Size m → Size v → answerOf (held x letter 3 false (capped n) (capped m) v (beyond m || (beyond n || false))) ≡ threeCall (x && is "T" letter) (x && is "S" letter) n m v
 unfolding answerOf answerIf severalOf
-answer-three {n} {m} {v} x letter r s (past f h) = rw f (sym (three-other (x && is "T" letter) n m v (typed-third n m v h)))
-answer-three {n} {m} {v} x letter r (past e h) (within f p) = rw (f, e) (sym (three-other (x && is "T" letter) n m v (typed-second n m v h)))
-answer-three {n} {m} {v} x letter (past d h) (within e q) (within f p) = rw (f, e, d) (sym (three-other (x && is "T" letter) n m v (typed-first n m v h)))
+answer-three {n} {m} {v} x letter r s (past f h) = rw f (sym (three-other (x && is "T" letter) (x && is "S" letter) n m v (typed-third n m v h) (string-third n m v h)))
+answer-three {n} {m} {v} x letter r (past e h) (within f p) = rw (f, e) (sym (three-other (x && is "T" letter) (x && is "S" letter) n m v (typed-second n m v h) (string-second n m v h)))
+answer-three {n} {m} {v} x letter (past d h) (within e q) (within f p) = rw (f, e, d) (sym (three-other (x && is "T" letter) (x && is "S" letter) n m v (typed-first n m v h) (string-first n m v h)))
 answer-three x letter (within d s) (within e q) (within f p) = rw (f, e, d, s, q, p)

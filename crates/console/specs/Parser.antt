@@ -111,7 +111,7 @@ parsedOf extended line = foldl nextOf (freshOf extended) line
 unfoldable pub severalOf : Bool → Bool → Parser → Call
 severalOf true isTwo p = Other
 severalOf false true p = twoCall (is "T" (p .letter)) (is "W" (p .letter)) (p .last) (p .number)
-severalOf false false p = threeCall (p .extended && is "T" (p .letter)) (p .earlier) (p .last) (p .number)
+severalOf false false p = threeCall (p .extended && is "T" (p .letter)) (p .extended && is "S" (p .letter)) (p .earlier) (p .last) (p .number)
 
 unfoldable pub answerIf : Bool → Bool → Bool → Bool → Parser → Call
 answerIf true isBare isEmpty isOne p = Other

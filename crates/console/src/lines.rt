@@ -6,7 +6,7 @@ ghost use mathlib.Core.Bool.{Bool, _&&_};
 ghost use mathlib.Core.List.{List, []};
 ghost use Prim.Native.Nat.{ℕ, _+_, _*_, min};
 ghost use lib.Dec.{ltb};
-ghost use Rattle.console.specs.Lines.{callOf, is, bareCall, oneCall, addedCall, twoCall, threeCall, rateCall, fillCall, cueCall, typedCall, lapseCall, longestOf};
+ghost use Rattle.console.specs.Lines.{callOf, is, bareCall, oneCall, addedCall, twoCall, threeCall, rateCall, fillCall, cueCall, keptCall, stringCall, typedCall, lapseCall, longestOf};
 ghost use Rattle.console.specs.Parser.{largest, spoiledOf, letterOf, digitOf, commaOf, nextOf, pushedOf, answerOf, parsedOf, readOf};
 
 // What a line asks for. A line that is none of these is `Other`.
@@ -26,6 +26,14 @@ pub enum Call {
     ForcedData,
     // The digit's position.
     Cue(u8),
+    // A byte for the string that is kept.
+    Kept(u8),
+    // The string that is kept is typed, with buffers of these lengths.
+    String {
+        carrier: bool,
+        outbox: usize,
+        codes: usize,
+    },
     Other,
 }
 
@@ -253,10 +261,13 @@ fn one(extended: bool, letter: u8, number: u64) -> Call
 
 // The lines of one number that `tap --ext` adds.
 fn added(letter: u8, number: u64) -> Call
-    ensures { λ r. ⌜ r ≡ addedCall (is "C" letter) number ⌝ }
+    ensures { λ r. ⌜ r ≡ addedCall (is "C" letter) (is "M" letter) number ⌝ }
 {
     if letter == b'C' {
         return cue(number);
+    }
+    if letter == b'M' {
+        return kept(number);
     }
     Call::Other
 }
@@ -274,10 +285,13 @@ fn two(letter: u8, first: u64, second: u64) -> Call
 }
 
 fn three(extended: bool, letter: u8, first: u64, second: u64, third: u64) -> Call
-    ensures { λ r. ⌜ r ≡ threeCall (extended && is "T" letter) first second third ⌝ }
+    ensures { λ r. ⌜ r ≡ threeCall (extended && is "T" letter) (extended && is "S" letter) first second third ⌝ }
 {
     if extended & (letter == b'T') {
         return typed(first, second, third);
+    }
+    if extended & (letter == b'S') {
+        return string(first, second, third);
     }
     Call::Other
 }
@@ -308,6 +322,34 @@ fn cue(position: u64) -> Call
         return Call::Cue(position as u8);
     }
     Call::Other
+}
+
+fn kept(byte: u64) -> Call
+    ensures { λ r. ⌜ r ≡ keptCall byte ⌝ }
+{
+    if byte <= 255 {
+        return Call::Kept(byte as u8);
+    }
+    Call::Other
+}
+
+fn string(carrier: u64, outbox: u64, codes: u64) -> Call
+    ensures { λ r. ⌜ r ≡ stringCall carrier outbox codes ⌝ }
+{
+    if carrier > 1 {
+        return Call::Other;
+    }
+    if outbox > 1200 {
+        return Call::Other;
+    }
+    if codes > 1200 {
+        return Call::Other;
+    }
+    Call::String {
+        carrier: carrier == 1,
+        outbox: outbox as usize,
+        codes: codes as usize,
+    }
 }
 
 // The samples of one fill at most.

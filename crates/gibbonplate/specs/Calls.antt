@@ -11,6 +11,7 @@ use Rattle.reply.specs.declared.Reply.{Reply}
 use Rattle.reply.specs.Codes.{firstOf, secondOf}
 use Rattle.set.specs.Refusals.{refusalNumber}
 use Rattle.set.specs.Set.{made, typed, outbox, lapsed, forced, fill, buffer, rung}
+use Rattle.set.specs.String.{typedAll, outboxAll, codesAll}
 use Rattle.cue.specs.Cue.{cueRefusalNumber, cued}
 use Rattle.gibbonplate.specs.Memory.{Memory, stored, loaded, kept}
 
@@ -28,6 +29,13 @@ pub record FeedCall (before after : Memory) (byte : ℕ) (carrier : Bool) (was i
   pub outbox : is ≡ outbox (loaded before) byte was
   pub codes : given ≡ codesOf (typed (loaded before) byte carrier (length was) .reply)
   pub sent : count ≡ typed (loaded before) byte carrier (length was) .sent
+
+pub record StringCall (before after : Memory) (bytes : List ℕ) (carrier : Bool) (was is codesWas codesAre : List ℕ) (count number : ℕ) : Type 0 where
+  pub refusal : number ≡ refusalNumber (typedAll (loaded before) bytes carrier (length was) (length codesWas) .refusal)
+  pub memory : after ≡ kept number (typedAll (loaded before) bytes carrier (length was) (length codesWas) .set) before
+  pub outbox : is ≡ outboxAll (loaded before) bytes carrier was (length codesWas)
+  pub codes : codesAre ≡ codesAll (loaded before) bytes carrier (length was) codesWas
+  pub sent : count ≡ typedAll (loaded before) bytes carrier (length was) (length codesWas) .sent
 
 pub record TimeCall (before after : Memory) (ns : ℕ) (carrier : Bool) (given : List ℕ) (number : ℕ) : Type 0 where
   pub refusal : number ≡ refusalNumber (lapsed (loaded before) ns carrier .refusal)

@@ -9,7 +9,7 @@ ghost use Rattle.reply.specs.Texts.{textOf};
 ghost use Rattle.at.specs.Processor.{commandMode};
 ghost use Rattle.session.specs.Session.{stateNumber};
 ghost use Rattle.gibbonplate.specs.Memory.{memory, loaded};
-ghost use Rattle.gibbonplate.specs.Calls.{NewCall, FeedCall, TimeCall, ForceCall, FillCall, RingCall, CueCall, letter, heldCount};
+ghost use Rattle.gibbonplate.specs.Calls.{NewCall, FeedCall, StringCall, TimeCall, ForceCall, FillCall, RingCall, CueCall, letter, heldCount};
 
 mod memory;
 mod plain;
@@ -57,6 +57,32 @@ pub extern "C" fn gibbonplate_feed_in(
     let number = refusal.number();
     *codes = [reply.first(), reply.second()];
     *sent = typed.sent;
+    memory::keep(number, after, longs, counts, reals, marks, line, keys);
+    number
+}
+
+#[no_mangle]
+pub extern "C" fn gibbonplate_feed_all_in(
+    longs: &mut [u64; 5],
+    counts: &mut [u32; 4],
+    reals: &mut [f64; 6],
+    marks: &mut [u8; 9],
+    line: &mut [u8; 80],
+    keys: &mut [u8; 76],
+    bytes: &[u8],
+    carrier: bool,
+    out: &mut [u8],
+    codes: &mut [u8],
+    sent: &mut usize,
+) -> u8
+    ensures { λ r. ⌜ StringCall (memory (now (longs .entry)) (now (counts .entry)) (now (reals .entry)) (now (marks .entry)) (now (line .entry)) (now (keys .entry))) (memory (now (longs .exit)) (now (counts .exit)) (now (reals .exit)) (now (marks .exit)) (now (line .exit)) (now (keys .exit))) (now (bytes .entry)) carrier (now (out .entry)) (now (out .exit)) (now (codes .entry)) (now (codes .exit)) (now (sent .exit)) r ⌝ }
+{
+    let set = memory::load(longs, counts, reals, marks, line, keys);
+    let all = set.feed_all(bytes, carrier, out, codes);
+    let after = all.set;
+    let refusal = all.refusal;
+    let number = refusal.number();
+    *sent = all.sent;
     memory::keep(number, after, longs, counts, reals, marks, line, keys);
     number
 }

@@ -1,8 +1,9 @@
 -- 01, "Proving cases", the program `wall`: the set after a line's call, and what is printed for the line.
-use Prim.Native.Nat.{ℕ}
-use mathlib.Core.Bool.{Bool, true, false}
-use mathlib.Core.List.{List, []}
-use lib.Dec.{leb}
+use Prim.Native.Nat.{ℕ, _*_}
+use mathlib.Core.Bool.{Bool, true, false, _&&_}
+use mathlib.Core.List.{List, [], _∷_, _++_}
+use lib.Dec.{leb, ltb}
+use lib.ListN.{length}
 use Rattle.console.specs.declared.lines.Call.{Call}
 use Rattle.console.specs.declared.lines.Call.the-variants as call
 use Rattle.reply.specs.declared.Reply.{Reply}
@@ -13,11 +14,13 @@ use Rattle.session.specs.Session.{stateNumber}
 use Rattle.set.specs.declared.Set.{Set}
 use Rattle.set.specs.declared.Made.{Made}
 use Rattle.set.specs.declared.Typed.{Typed}
+use Rattle.set.specs.declared.TypedAll.{TypedAll}
 use Rattle.set.specs.declared.Lapsed.{Lapsed}
 use Rattle.set.specs.declared.Forced.{Forced}
 use Rattle.set.specs.declared.Filled.{Filled}
-use Rattle.set.specs.Refusals.{refusalNumber}
+use Rattle.set.specs.Refusals.{refusalNumber, either, ifAccepted}
 use Rattle.set.specs.Set.{made, typed, lapsed, forced, fill}
+use Rattle.set.specs.String.{typedAll}
 use Rattle.cue.specs.declared.Cued.{Cued}
 use Rattle.cue.specs.Cue.{cueRefusalNumber, cued}
 use Rattle.report.specs.declared.Report.{Report}
@@ -66,21 +69,43 @@ filledShown length a = shownOf (a .set) (refusalNumber (a .refusal)) reply.None 
 abbrev pub cuedShown : Set → Cued → Shown
 cuedShown s a = shownOf s (cueRefusalNumber (a .refusal)) reply.None (second.Cued (a .sample)) true
 
+-- a string has no codes of its own: those of its n bytes fill two places each, where it is not declined
+abbrev pub stringShown : ℕ → TypedAll → Shown
+stringShown n a = shownOf (a .set) (refusalNumber (a .refusal)) reply.None (second.String (a .sent) (ifAccepted (a .refusal) (2 * n) 0)) true
+
 -- a call that asks for more room than there is counts as another line: no line that is read does
 abbrev pub ifRoom : Bool → Set → Shown → Shown
 ifRoom true s shown = shown
 ifRoom false s shown = nothingShown s
 
--- R,rate / T,byte,carrier / W,ns,carrier / F,length / D, and C,position of `tap --ext`; with room for an outbox of so many bytes and for
--- so many samples
-abbrev pub shownAfter : (bytes samples : ℕ) → Set → Call → Shown
-shownAfter bytes samples s (call.Rate rate) = madeShown (made rate)
-shownAfter bytes samples s (call.Typed byte carrier outbox) = ifRoom (leb outbox bytes) s (typedShown (typed s byte carrier outbox))
-shownAfter bytes samples s (call.Lapse ns carrier) = lapsedShown (lapsed s ns carrier)
-shownAfter bytes samples s (call.Fill length) = ifRoom (leb length samples) s (filledShown length (fill s length))
-shownAfter bytes samples s call.ForcedData = forcedShown (forced s)
-shownAfter bytes samples s (call.Cue position) = cuedShown s (cued s position)
-shownAfter bytes samples s call.Other = nothingShown s
+-- R,rate / T,byte,carrier / W,ns,carrier / F,length / D, and of `tap --ext` C,position / M,byte / S,carrier,outbox,codes; with room for an outbox
+-- of so many bytes, so many codes and so many samples, and with the string that is kept
+abbrev pub shownAfter : (bytes places samples : ℕ) (kept : List ℕ) → Set → Call → Shown
+shownAfter bytes places samples kept s (call.Rate rate) = madeShown (made rate)
+shownAfter bytes places samples kept s (call.Typed byte carrier outbox) = ifRoom (leb outbox bytes) s (typedShown (typed s byte carrier outbox))
+shownAfter bytes places samples kept s (call.Lapse ns carrier) = lapsedShown (lapsed s ns carrier)
+shownAfter bytes places samples kept s (call.Fill n) = ifRoom (leb n samples) s (filledShown n (fill s n))
+shownAfter bytes places samples kept s call.ForcedData = forcedShown (forced s)
+shownAfter bytes places samples kept s (call.Cue position) = cuedShown s (cued s position)
+shownAfter bytes places samples kept s (call.Kept byte) = nothingShown s
+shownAfter bytes places samples kept s (call.String carrier outbox codes) =
+    ifRoom (leb outbox bytes && leb codes places) s (stringShown (length kept) (typedAll s kept carrier outbox codes))
+shownAfter bytes places samples kept s call.Other = nothingShown s
+
+-- the string that is kept, with room for so many bytes: M adds a byte, or passes it over; S forgets it, declined or not; no other line changes it
+abbrev pub keptWith : ℕ → List ℕ → ℕ → List ℕ
+keptWith room kept byte = either (ltb (length kept) room) (kept ++ (byte ∷ [])) kept
+
+abbrev pub keptAfter : ℕ → List ℕ → Call → List ℕ
+keptAfter room kept (call.Kept byte) = keptWith room kept byte
+keptAfter room kept (call.String carrier outbox codes) = []
+keptAfter room kept (call.Rate rate) = kept
+keptAfter room kept (call.Typed byte carrier outbox) = kept
+keptAfter room kept (call.Lapse ns carrier) = kept
+keptAfter room kept (call.Fill n) = kept
+keptAfter room kept call.ForcedData = kept
+keptAfter room kept (call.Cue position) = kept
+keptAfter room kept call.Other = kept
 
 -- the line printed
 abbrev pub lineIf : Bool → Report → List ℕ

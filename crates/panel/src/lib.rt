@@ -7,10 +7,11 @@ use set::Set;
 use shown::Shown;
 ghost use mathlib.Core.Path.{_≡_};
 ghost use mathlib.Core.Bool.{false};
-ghost use lib.ListN.{length};
+ghost use lib.ListN.{length, take};
 ghost use Rattle.text.specs.Text.{pageOf, addOf};
-ghost use Rattle.panel.specs.Wall.{shownAfter, lineOf};
+ghost use Rattle.panel.specs.Wall.{shownAfter, keptAfter, lineOf};
 
+mod keep;
 mod page;
 mod shown;
 
@@ -24,6 +25,8 @@ struct Panel {
     bits: bool,
     // how much of the page is written
     at: usize,
+    // `tap --ext`: how long the string is that it keeps
+    kept: usize,
     // the input has not ended, and nothing has failed
     open: bool,
 }
@@ -31,8 +34,9 @@ struct Panel {
 // The whole program.
 pub fn run(extended: bool, bits: bool) {
     let mut samples = [0.0f32; 70000];
+    let mut string = [0u8; 300];
     let mut out = [0u8; 65536];
-    read_all(fresh(extended, bits), &mut samples, &mut out);
+    read_all(fresh(extended, bits), &mut string, &mut samples, &mut out);
 }
 
 // 01: before any R line the rate is 8000.
@@ -46,51 +50,58 @@ fn fresh(extended: bool, bits: bool) -> Panel {
         extended,
         bits,
         at: 0,
+        kept: 0,
         open: true,
     }
 }
 
 // A proved loop has to end, and nothing says that the input does: the loop counts down from a number
 // that no run uses up.
-fn read_all(p: Panel, samples: &mut [f32], out: &mut [u8]) -> Panel {
+fn read_all(p: Panel, string: &mut [u8], samples: &mut [f32], out: &mut [u8]) -> Panel {
     let mut s = p;
     let mut left = u64::MAX;
     while left > 0 && s.open {
-        s = read_some(s, samples, out);
+        s = read_some(s, string, samples, out);
         left -= 1;
     }
     s
 }
 
 // One read, its lines, and their answers.
-fn read_some(p: Panel, samples: &mut [f32], out: &mut [u8]) -> Panel {
+fn read_some(p: Panel, string: &mut [u8], samples: &mut [f32], out: &mut [u8]) -> Panel {
     let mut buffer = [0u8; 4096];
     let input = console::stream::read(&mut buffer);
     let got = input.count;
     if got == 0 {
-        return ended(p, input.good, samples, out);
+        return ended(p, input.good, string, samples, out);
     }
-    let s = take_all(p, &buffer[..got], samples, out);
+    let s = take_all(p, &buffer[..got], string, samples, out);
     flushed(s, out)
 }
 
-fn take_all(p: Panel, bytes: &[u8], samples: &mut [f32], out: &mut [u8]) -> Panel {
+fn take_all(
+    p: Panel,
+    bytes: &[u8],
+    string: &mut [u8],
+    samples: &mut [f32],
+    out: &mut [u8],
+) -> Panel {
     let mut s = p;
     let mut i: usize = 0;
     while i < bytes.len() {
-        s = take(s, bytes[i], samples, out);
+        s = take(s, bytes[i], string, samples, out);
         i += 1;
     }
     s
 }
 
-fn take(p: Panel, byte: u8, samples: &mut [f32], out: &mut [u8]) -> Panel {
+fn take(p: Panel, byte: u8, string: &mut [u8], samples: &mut [f32], out: &mut [u8]) -> Panel {
     let parser = p.parser;
     let extended = p.extended;
     match parser.push(byte) {
         Pushed::More(next) => Panel { parser: next, ..p },
         Pushed::Line(call) => {
-            let s = perform(p, call, samples, out);
+            let s = perform(p, call, string, samples, out);
             let first = Parser::new(extended);
             settled(Panel { parser: first, ..s }, out)
         }
@@ -98,23 +109,23 @@ fn take(p: Panel, byte: u8, samples: &mut [f32], out: &mut [u8]) -> Panel {
 }
 
 // No more input came: it has ended, or it cannot be read.
-fn ended(p: Panel, good: bool, samples: &mut [f32], out: &mut [u8]) -> Panel
+fn ended(p: Panel, good: bool, string: &mut [u8], samples: &mut [f32], out: &mut [u8]) -> Panel
     ensures { λ r. ⌜ r .open ≡ false ⌝ }
 {
     if good {
-        return closed(p, samples, out);
+        return closed(p, string, samples, out);
     }
     cannot_read(p.bits);
     Panel { open: false, ..p }
 }
 
 // What the input's end leaves: a last line without its line feed.
-fn closed(p: Panel, samples: &mut [f32], out: &mut [u8]) -> Panel
+fn closed(p: Panel, string: &mut [u8], samples: &mut [f32], out: &mut [u8]) -> Panel
     ensures { λ r. ⌜ r .open ≡ false ⌝ }
 {
     let parser = p.parser;
     let call = parser.finish();
-    let s = perform(p, call, samples, out);
+    let s = perform(p, call, string, samples, out);
     let t = flushed(s, out);
     Panel { open: false, ..t }
 }
@@ -160,19 +171,32 @@ fn cannot_write(bits: bool) {
     os::fail(b"wall: standard output cannot be written");
 }
 
-// What a line leaves: the set after its call, and, without `tap`'s second line, 01's line on the page.
-fn perform(p: Panel, call: Call, samples: &mut [f32], out: &mut [u8]) -> Panel
-    ensures { λ r. ⌜ r .set ≡ shownAfter 16 (length (now (samples .entry))) (p .set) call .set ⌝ }
-    ensures { λ r. ⌜ (p .bits ≡ false → pageOf (now (out .exit)) (r .at) ≡ addOf (pageOf (now (out .entry)) (p .at)) (lineOf (shownAfter 16 (length (now (samples .entry))) (p .set) call))) ⌝ }
+// What a line leaves: the set after its call, the string that is kept, and, without `tap`'s second line, 01's line on the page.
+fn perform(p: Panel, call: Call, string: &mut [u8], samples: &mut [f32], out: &mut [u8]) -> Panel
+    ensures { λ r. ⌜ r .set ≡ shownAfter 1200 1200 (length (now (samples .entry))) (take (p .kept) (now (string .entry))) (p .set) call .set ⌝ }
+    ensures { λ r. ⌜ take (r .kept) (now (string .exit)) ≡ keptAfter (length (now (string .entry))) (take (p .kept) (now (string .entry))) call ⌝ }
+    ensures { λ r. ⌜ (p .bits ≡ false → pageOf (now (out .exit)) (r .at) ≡ addOf (pageOf (now (out .entry)) (p .at)) (lineOf (shownAfter 1200 1200 (length (now (samples .entry))) (take (p .kept) (now (string .entry))) (p .set) call))) ⌝ }
 {
-    let mut outbox = [0u8; 16];
-    let s = shown::after(p.set, call, &mut outbox, samples);
+    let mut outbox = [0u8; 1200];
+    let mut codes = [0u8; 1200];
+    let from: usize = 0;
+    let held = keep::held(p.kept, string);
+    let s = shown::after(
+        p.set,
+        call,
+        &string[from..held],
+        &mut outbox,
+        &mut codes,
+        samples,
+    );
+    let kept = keep::after(call, p.kept, string);
     let set = s.set;
     let first = shown::put_line(out, p.at, s);
-    let second = put_second(p.bits, out, first, s, &outbox, samples);
+    let second = put_second(p.bits, out, first, s, &outbox, &codes, samples);
     Panel {
         set,
         at: second,
+        kept,
         ..p
     }
 }
@@ -183,12 +207,13 @@ fn put_second(
     at: usize,
     shown: Shown,
     outbox: &[u8],
+    codes: &[u8],
     samples: &[f32],
 ) -> usize
     ensures { λ r. ⌜ (bits ≡ false → pageOf (now (out .exit)) r ≡ pageOf (now (out .entry)) at) ⌝ }
 {
     if bits & shown.prints {
-        return page::put_bits(out, at, shown, outbox, samples);
+        return page::put_bits(out, at, shown, outbox, codes, samples);
     }
     at
 }

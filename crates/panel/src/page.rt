@@ -4,10 +4,17 @@ use crate::shown::Shown;
 use set::Set;
 
 // What the call's second line tells.
-pub fn put_bits(out: &mut [u8], at: usize, shown: Shown, outbox: &[u8], samples: &[f32]) -> usize {
+pub fn put_bits(
+    out: &mut [u8],
+    at: usize,
+    shown: Shown,
+    outbox: &[u8],
+    codes: &[u8],
+    samples: &[f32],
+) -> usize {
     let set = shown.set;
     let second = shown.second;
-    let k = put_second(out, at, set, second, outbox, samples);
+    let k = put_second(out, at, set, second, outbox, codes, samples);
     text::put_byte(out, k, b'\n')
 }
 
@@ -17,12 +24,14 @@ fn put_second(
     set: Set,
     second: Second,
     outbox: &[u8],
+    codes: &[u8],
     samples: &[f32],
 ) -> usize {
     match second {
         Second::Sent(sent) => put_sent(out, at, set, outbox, sent),
         Second::Filled(n) => put_filled(out, at, set, outbox, samples, n),
         Second::Cued(sample) => put_cue(out, at, sample),
+        Second::String { sent, places } => put_string(out, at, set, outbox, sent, codes, places),
     }
 }
 
@@ -45,6 +54,21 @@ fn put_filled(
     put_samples(out, k, samples, n)
 }
 
+// The ring, the bytes sent, and the codes.
+fn put_string(
+    out: &mut [u8],
+    at: usize,
+    set: Set,
+    outbox: &[u8],
+    sent: usize,
+    codes: &[u8],
+    places: usize,
+) -> usize {
+    let k = put_sent(out, at, set, outbox, sent);
+    let l = text::put(out, k, b" codes=");
+    put_front(out, l, codes, places)
+}
+
 fn put_cue(out: &mut [u8], at: usize, sample: u64) -> usize {
     let k = text::put(out, at, b"# cue=");
     text::put_decimal(out, k, sample)
@@ -57,17 +81,21 @@ fn put_ring(out: &mut [u8], at: usize, set: Set) -> usize {
     text::put_decimal(out, k, ring as u64)
 }
 
-// The outbox's first `sent` bytes, in hexadecimal.
 fn put_outbox(out: &mut [u8], at: usize, outbox: &[u8], sent: usize) -> usize {
-    let from: usize = 0;
     let k = text::put(out, at, b" sent=");
-    if sent == 0 {
-        return text::put_byte(out, k, b'-');
+    put_front(out, k, outbox, sent)
+}
+
+// The buffer's first `n` bytes, in hexadecimal.
+fn put_front(out: &mut [u8], at: usize, bytes: &[u8], n: usize) -> usize {
+    let from: usize = 0;
+    if n == 0 {
+        return text::put_byte(out, at, b'-');
     }
-    if sent > outbox.len() {
-        return k;
+    if n > bytes.len() {
+        return at;
     }
-    put_bytes(out, k, &outbox[from..sent])
+    put_bytes(out, at, &bytes[from..n])
 }
 
 fn put_bytes(out: &mut [u8], at: usize, bytes: &[u8]) -> usize {

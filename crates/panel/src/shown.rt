@@ -4,12 +4,16 @@ use reply::Reply;
 use report::Report;
 use set::Set;
 ghost use mathlib.Core.Path.{_≡_};
+ghost use Prim.Native.Nat.{_*_};
+ghost use mathlib.Core.Bool.{_&&_};
 ghost use lib.Dec.{leb};
 ghost use lib.ListN.{length};
 ghost use Rattle.text.specs.Text.{pageOf, addOf};
 ghost use Rattle.set.specs.Set.{made, typed, lapsed, forced, fill};
+ghost use Rattle.set.specs.Refusals.{either};
+ghost use Rattle.set.specs.String.{typedAll};
 ghost use Rattle.cue.specs.Cue.{cued};
-ghost use Rattle.panel.specs.Wall.{shownOf, nothingShown, madeShown, typedShown, lapsedShown, forcedShown, filledShown, cuedShown, ifRoom, shownAfter, lineOf};
+ghost use Rattle.panel.specs.Wall.{shownOf, nothingShown, madeShown, typedShown, lapsedShown, forcedShown, filledShown, cuedShown, stringShown, ifRoom, shownAfter, lineOf};
 
 // What `tap`'s second line tells of a call.
 pub enum Second {
@@ -19,6 +23,8 @@ pub enum Second {
     Filled(usize),
     // the cue's sample
     Cued(u64),
+    // the ring, and how many bytes of the outbox and places of the code buffer were filled
+    String { sent: usize, places: usize },
 }
 
 pub struct Shown {
@@ -29,8 +35,15 @@ pub struct Shown {
     pub prints: bool,
 }
 
-pub fn after(set: Set, call: Call, outbox: &mut [u8], samples: &mut [f32]) -> Shown
-    ensures { λ r. ⌜ r ≡ shownAfter (length (now (outbox .entry))) (length (now (samples .entry))) set call ⌝ }
+pub fn after(
+    set: Set,
+    call: Call,
+    string: &[u8],
+    outbox: &mut [u8],
+    codes: &mut [u8],
+    samples: &mut [f32],
+) -> Shown
+    ensures { λ r. ⌜ r ≡ shownAfter (length (now (outbox .entry))) (length (now (codes .entry))) (length (now (samples .entry))) (now (string .entry)) set call ⌝ }
 {
     match call {
         Call::Rate(rate) => made(rate),
@@ -43,6 +56,12 @@ pub fn after(set: Set, call: Call, outbox: &mut [u8], samples: &mut [f32]) -> Sh
         Call::Fill(n) => filled(set, n, samples),
         Call::ForcedData => forced(set),
         Call::Cue(position) => cued(set, position),
+        Call::Kept(_) => nothing(set),
+        Call::String {
+            carrier,
+            outbox: n,
+            codes: places,
+        } => typed_all(set, string, carrier, n, places, outbox, codes),
         Call::Other => nothing(set),
     }
 }
@@ -153,6 +172,61 @@ fn cued(set: Set, position: u8) -> Shown
         Second::Cued(sample),
         true,
     )
+}
+
+// Into the outbox's first `n` bytes and the code buffer's first `m`.
+fn typed_all(
+    set: Set,
+    string: &[u8],
+    carrier: bool,
+    n: usize,
+    m: usize,
+    outbox: &mut [u8],
+    codes: &mut [u8],
+) -> Shown
+    ensures { λ r. ⌜ r ≡ ifRoom (leb n (length (now (outbox .entry))) && leb m (length (now (codes .entry)))) set (stringShown (length (now (string .entry))) (typedAll set (now (string .entry)) carrier n m)) ⌝ }
+{
+    let from: usize = 0;
+    if n > outbox.len() {
+        return nothing(set);
+    }
+    if m > codes.len() {
+        return nothing(set);
+    }
+    feed_all(
+        set,
+        string,
+        carrier,
+        &mut outbox[from..n],
+        &mut codes[from..m],
+    )
+}
+
+fn feed_all(set: Set, string: &[u8], carrier: bool, outbox: &mut [u8], codes: &mut [u8]) -> Shown
+    ensures { λ r. ⌜ r ≡ stringShown (length (now (string .entry))) (typedAll set (now (string .entry)) carrier (length (now (outbox .entry))) (length (now (codes .entry)))) ⌝ }
+{
+    let a = set.feed_all(string, carrier, outbox, codes);
+    let next = a.set;
+    let refusal = a.refusal;
+    let sent = a.sent;
+    let places = used(refusal.accepted(), string);
+    show(
+        next,
+        refusal.number(),
+        Reply::None,
+        Second::String { sent, places },
+        true,
+    )
+}
+
+// Two places a byte.
+fn used(accepted: bool, string: &[u8]) -> usize
+    ensures { λ r. ⌜ r ≡ either accepted (2 * length (now (string .entry))) 0 ⌝ }
+{
+    if accepted {
+        return 2 * string.len();
+    }
+    0
 }
 
 fn nothing(set: Set) -> Shown

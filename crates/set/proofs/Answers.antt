@@ -16,16 +16,19 @@ use Rattle.session.specs.declared.SessionState.{SessionState}
 use Rattle.set.specs.declared.Set.{Set}
 use Rattle.set.specs.declared.Made.{Made}
 use Rattle.set.specs.declared.Typed.{Typed}
+use Rattle.set.specs.declared.TypedAll.{TypedAll}
 use Rattle.set.specs.declared.Lapsed.{Lapsed}
 use Rattle.set.specs.declared.Forced.{Forced}
 use Rattle.set.specs.declared.Filled.{Filled}
 use Rattle.set.specs.declared.Rung.{Rung}
 use Rattle.set.specs.Refusals.{Declined}
 use Rattle.set.specs.Set.{freshSet, creationCause, made, typingCause, typed, outbox, lapseCause, lapsed, forcedCause, forced, fillCause, fill, buffer, ringCause, rung}
-use Rattle.set.specs.Event.{outboxOf, bufferOf, typedEvent, lapsedEvent, forcedEvent, filledEvent, ByCause}
+use Rattle.set.specs.String.{stringCause, typedAll, outboxAll, codesAll}
+use Rattle.set.specs.Event.{outboxOf, bufferOf, typedEvent, lapsedEvent, forcedEvent, filledEvent, ByCause, stringEvent, StringByCause}
 use Rattle.set.proofs.Unchanged.{unchanged}
 use Rattle.set.proofs.Set.new.Reads as new
 use Rattle.set.proofs.Set.feed.Reads as feed
+use Rattle.set.proofs.Set.feed_all.Reads as feed-all
 use Rattle.set.proofs.Set.advance_time.Reads as advance-time
 use Rattle.set.proofs.Set.force_data_mode.Reads as force-data-mode
 use Rattle.set.proofs.Set.process_out.Reads as process-out
@@ -57,6 +60,27 @@ module _ (s : Set) where
               set = unchanged _ declined _ s;
               lent = ap outboxOf (unchanged _ declined _ (now out));
               reply = unchanged _ declined _ None;
+              sent = unchanged _ declined _ 0;
+            };
+      })
+
+  pub feed-all-answers : (κs : Lfts 3) (bytes : RefT (List ℕ)) (carrier : Bool) (out codes : RefT (List ℕ)) (left codesLeft : List ℕ) (answer : TypedAll)
+      → feed-all.Learnt κs (s, (bytes, (carrier, (out, (codes, tt))))) answer
+      (s, (bytes, (carrier, (at-last out left, (at-last codes codesLeft, tt)))))
+      → StringByCause s (stringCause s (length (now bytes)) (length (now out)) (length (now codes)))
+      (stringEvent (now bytes) carrier (now out) left (now codes) codesLeft answer)
+  unfolding typedAll outboxAll codesAll
+  feed-all-answers κs bytes carrier out codes left codesLeft answer d =
+      let told : answer ≡ typedAll s (now bytes) carrier (length (now out)) (length (now codes)) = d .0 in
+      let wrote : left ≡ outboxAll s (now bytes) carrier (now out) (length (now codes)) = d .1 .0 in
+      let coded : codesLeft ≡ codesAll s (now bytes) carrier (length (now out)) (now codes) = d .1 .1 in
+      rw (told, wrote, coded) (record {
+        refusal = refl;
+        unchanged = λ declined.
+            record {
+              set = unchanged _ declined _ s;
+              outbox = unchanged _ declined _ (now out);
+              codes = unchanged _ declined _ (now codes);
               sent = unchanged _ declined _ 0;
             };
       })

@@ -2,6 +2,7 @@
 -- of 01's table of refusals.
 pub mod Ranges
 pub mod Soundness
+pub mod String
 pub mod Unchanged
 pub mod Answers
 pub mod Follows

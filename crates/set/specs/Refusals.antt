@@ -5,7 +5,7 @@ use mathlib.Core.Path.{_≡_}
 use mathlib.Core.Bool.{Bool, true, false}
 use lib.Dec.{eqb}
 use Rattle.set.specs.declared.Refusal.{Refusal}
-use Rattle.set.specs.declared.Refusal.the-variants.{Accepted, Rate, Outbox, Length, Connected, Unsound}
+use Rattle.set.specs.declared.Refusal.the-variants.{Accepted, Rate, Outbox, Length, Connected, Unsound, StringLength, StringRoom}
 
 abbrev pub refusalNumber : Refusal → ℕ
 refusalNumber Accepted = 0
@@ -14,6 +14,8 @@ refusalNumber Outbox = 2
 refusalNumber Length = 3
 refusalNumber Connected = 5
 refusalNumber Unsound = 6
+refusalNumber StringLength = 8
+refusalNumber StringRoom = 9
 
 -- creation: 1
 abbrev pub causeOfCreation : (limits : Bool) → Refusal
@@ -37,6 +39,13 @@ causeOfFill false long up = Unsound
 causeOfFill true true up = Length
 causeOfFill true false true = Connected
 causeOfFill true false false = Accepted
+
+-- 02, E3: a string: 6, 8, 9
+abbrev pub causeOfString : (ok long short : Bool) → Refusal
+causeOfString false long short = Unsound
+causeOfString true true short = StringLength
+causeOfString true false true = StringRoom
+causeOfString true false false = Accepted
 
 -- a call goes by whether it is accepted: it comes to something, or all is as it was
 abbrev pub Declined : Refusal → Type 0

@@ -19,6 +19,7 @@ use Rattle.soundness.specs.Sound.{rateOk}
 use Rattle.set.specs.declared.Refusal.{Refusal}
 use Rattle.set.specs.declared.Set.{Set}
 use Rattle.set.specs.declared.Made.{Made}
+use Rattle.set.specs.declared.ByteTyped.{ByteTyped}
 use Rattle.set.specs.declared.Typed.{Typed}
 use Rattle.set.specs.declared.Lapsed.{Lapsed}
 use Rattle.set.specs.declared.Forced.{Forced}
@@ -51,15 +52,20 @@ byteTaken s byte carrier n =
     let fed = typedByte (s .processor) byte (heard (s .session) carrier) n in
     moved s (fed .processor) (controlled (fed .control) (s .session) (afterAtdt fed) (s .rate))
 
+abbrev pub byteTyped : Set → ℕ → Bool → ℕ → ByteTyped
+byteTyped s byte carrier n =
+    let fed = typedByte (s .processor) byte (heard (s .session) carrier) n in
+    record { set = byteTaken s byte carrier n; reply = fed .reply; sent = fed .sent }
+
 unfoldable pub typed : Set → ℕ → Bool → ℕ → Typed
 typed s byte carrier n =
     let cause = typingCause s n in
-    let fed = typedByte (s .processor) byte (heard (s .session) carrier) n in
+    let taken = byteTyped s byte carrier n in
     record {
-      set = ifAccepted cause (byteTaken s byte carrier n) s;
+      set = ifAccepted cause (taken .set) s;
       refusal = cause;
-      reply = ifAccepted cause (fed .reply) reply.None;
-      sent = ifAccepted cause (fed .sent) 0;
+      reply = ifAccepted cause (taken .reply) reply.None;
+      sent = ifAccepted cause (taken .sent) 0;
     }
 
 -- the outbox: the bytes sent at its front, later ones as they were

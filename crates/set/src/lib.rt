@@ -7,16 +7,24 @@ use reply::Reply;
 use session::Session;
 use session::SessionState;
 ghost use mathlib.Core.Path.{_≡_};
+ghost use Prim.Native.Nat.{_*_, _≤_};
+ghost use mathlib.Core.Bool.{true};
 ghost use lib.ListN.{length};
+ghost use Rattle.ascii.specs.Front.{put};
+ghost use Rattle.at.specs.At.{sent};
 ghost use Rattle.at.specs.Processor.{commandMode};
 ghost use Rattle.set.specs.Refusals.{refusalNumber, causeOfSound, accepted};
 ghost use Rattle.set.specs.Sound.{sound};
-ghost use Rattle.set.specs.Set.{freshSet, creationCause, made, typingCause, typed, outbox, lapsed, forced, fillCause, fill, buffer, rung};
+ghost use Rattle.set.specs.Set.{freshSet, creationCause, made, typingCause, byteTyped, typed, outbox, lapsed, forced, fillCause, fill, buffer, rung};
+ghost use Rattle.set.specs.String.{setBy, sentBy, codesBy, atFront, stringCause, typedAll, outboxAll, codesAll};
 
 // The shortest outbox that a typed byte takes, and the longest buffer that a fill takes.
 const MIN_OUTBOX: usize = 4;
 
 const MAX_FILL: usize = 65536;
+
+// The longest string typed in a call.
+const MAX_STRING: usize = 256;
 
 const MAX_SAMPLES: u32 = 5_000_000;
 
@@ -28,6 +36,8 @@ pub enum Refusal {
     Length,
     Connected,
     Unsound,
+    StringLength,
+    StringRoom,
 }
 
 pub struct Set {
@@ -45,6 +55,26 @@ pub struct Typed {
     pub set: Set,
     pub refusal: Refusal,
     pub reply: Reply,
+    // bytes put into the outbox
+    pub sent: usize,
+}
+
+// What a byte comes to on a set that takes it.
+struct ByteTyped {
+    set: Set,
+    reply: Reply,
+    sent: usize,
+}
+
+// What the bytes of a string come to.
+struct BytesTyped {
+    set: Set,
+    sent: usize,
+}
+
+pub struct TypedAll {
+    pub set: Set,
+    pub refusal: Refusal,
     // bytes put into the outbox
     pub sent: usize,
 }
@@ -82,6 +112,8 @@ impl Refusal {
             Refusal::Length => 3,
             Refusal::Connected => 5,
             Refusal::Unsound => 6,
+            Refusal::StringLength => 8,
+            Refusal::StringRoom => 9,
         }
     }
 
@@ -173,27 +205,16 @@ impl Set {
         ensures { λ r. ⌜ r ≡ typed self byte carrier (length (now (out .entry))) ⌝ }
         ensures { λ _. ⌜ now (out .exit) ≡ outbox self byte (now (out .entry)) ⌝ }
     {
-        let processor = self.processor;
-        let session = self.session;
-        let state = session.state;
         let refusal = self.typing_cause(out.len());
         if refusal.accepted() {
-            let heard = control::heard_in(state, carrier);
-            let fed = processor.feed(byte, heard, out);
-            let next = fed.processor;
-            let reply = fed.reply;
-            let asked = fed.control;
-            let line = fed.line;
-            let moved = control::apply(asked, session, line, self.rate);
+            let t = self.take_byte(byte, carrier, out);
+            let set = t.set;
+            let reply = t.reply;
             return Typed {
-                set: Set {
-                    processor: next,
-                    session: moved,
-                    ..self
-                },
+                set,
                 refusal,
                 reply,
-                sent: fed.sent,
+                sent: t.sent,
             };
         }
         Typed {
@@ -202,6 +223,98 @@ impl Set {
             reply: Reply::None,
             sent: 0,
         }
+    }
+
+    // The byte alone, with no check: `feed_all` checks once for all of its bytes.
+    fn take_byte(self, byte: u8, carrier: bool, out: &mut [u8]) -> ByteTyped
+        ensures { λ r. ⌜ r ≡ byteTyped self byte carrier (length (now (out .entry))) ⌝ }
+        ensures { λ _. ⌜ now (out .exit) ≡ put (sent (self .processor) byte) (now (out .entry)) ⌝ }
+    {
+        let processor = self.processor;
+        let session = self.session;
+        let state = session.state;
+        let heard = control::heard_in(state, carrier);
+        let fed = processor.feed(byte, heard, out);
+        let next = fed.processor;
+        let reply = fed.reply;
+        let asked = fed.control;
+        let line = fed.line;
+        let moved = control::apply(asked, session, line, self.rate);
+        ByteTyped {
+            set: Set {
+                processor: next,
+                session: moved,
+                ..self
+            },
+            reply,
+            sent: fed.sent,
+        }
+    }
+
+    fn string_cause(self, n: usize, room: usize, places: usize) -> Refusal
+        ensures { λ r. ⌜ r ≡ stringCause self n room places ⌝ }
+    {
+        if self.sound() {
+            if n > MAX_STRING {
+                return Refusal::StringLength;
+            }
+            if (room < 4 * n) | (places < 2 * n) {
+                return Refusal::StringRoom;
+            }
+            return Refusal::Accepted;
+        }
+        Refusal::Unsound
+    }
+
+    // A whole string typed at the panel, as its bytes typed singly. The codes of byte i, 0 for none,
+    // are put at places 2i and 2i + 1.
+    pub fn feed_all(self, bytes: &[u8], carrier: bool, out: &mut [u8], codes: &mut [u8]) -> TypedAll
+        ensures { λ r. ⌜ r ≡ typedAll self (now (bytes .entry)) carrier (length (now (out .entry))) (length (now (codes .entry))) ⌝ }
+        ensures { λ _. ⌜ now (out .exit) ≡ outboxAll self (now (bytes .entry)) carrier (now (out .entry)) (length (now (codes .entry))) ⌝ }
+        ensures { λ _. ⌜ now (codes .exit) ≡ codesAll self (now (bytes .entry)) carrier (length (now (out .entry))) (now (codes .entry)) ⌝ }
+    {
+        let refusal = self.string_cause(bytes.len(), out.len(), codes.len());
+        if refusal.accepted() {
+            let t = self.take_bytes(bytes, carrier, out, codes);
+            let set = t.set;
+            return TypedAll {
+                set,
+                refusal,
+                sent: t.sent,
+            };
+        }
+        TypedAll {
+            set: self,
+            refusal,
+            sent: 0,
+        }
+    }
+
+    fn take_bytes(self, bytes: &[u8], carrier: bool, out: &mut [u8], codes: &mut [u8]) -> BytesTyped
+        requires { ⌜ sound self ≡ true ⌝ }
+        requires { ⌜ length (now bytes) ≤ 256 ⌝ }
+        requires { ⌜ 4 * length (now bytes) ≤ length (now out) ⌝ }
+        requires { ⌜ 2 * length (now bytes) ≤ length (now codes) ⌝ }
+        ensures { λ r. ⌜ r .set ≡ setBy self (now (bytes .entry)) carrier ⌝ }
+        ensures { λ r. ⌜ r .sent ≡ length (sentBy self (now (bytes .entry)) carrier) ⌝ }
+        ensures { λ _. ⌜ now (out .exit) ≡ atFront (sentBy self (now (bytes .entry)) carrier) (now (out .entry)) ⌝ }
+        ensures { λ _. ⌜ now (codes .exit) ≡ atFront (codesBy self (now (bytes .entry)) carrier) (now (codes .entry)) ⌝ }
+    {
+        let mut s = self;
+        let mut at: usize = 0;
+        let mut i: usize = 0;
+        while i < bytes.len() {
+            let t = s.take_byte(bytes[i], carrier, &mut out[at..]);
+            let reply = t.reply;
+            let place = 2 * i;
+            codes[place] = reply.first();
+            codes[place + 1] = reply.second();
+            at += t.sent;
+            let next = t.set;
+            s = next;
+            i += 1;
+        }
+        BytesTyped { set: s, sent: at }
     }
 
     // Time passes, in nanoseconds.

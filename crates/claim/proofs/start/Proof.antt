@@ -1,6 +1,6 @@
 -- `claim::start` meets its contract: the set that creation hands out, of which the claim holds at every rate. Assumes nothing.
 use borrow.Author.Needs.{needs}
-use Rattle.claim.proofs.Claim.{claim}
+use Rattle.claim.proofs.Strings.{claim}
 use Rattle.claim.proofs.start.Statement.{statement}
 use Rattle.claim.proofs.start.Tie as tie
 

@@ -12,7 +12,7 @@ same-length : tie.Need-same-length
 same-length c = search needs
 
 returns : tie.Need-returns
-returns c = λ e. absurd (true≢false (sym (c .before .before .before .before .if1 .taken) ∙ ap (λ (b : Bool). b && c .before .before .before .before .before .before .before .before .before .args .shown .prints) e))
+returns c = λ e. absurd (true≢false (sym (c .before .before .before .before .if1 .taken) ∙ ap (λ (b : Bool). b && c .before .before .before .before .before .before .before .before .before .before .args .shown .prints) e))
 
 returns-2 : tie.Need-returns-2
 returns-2 c = search needs

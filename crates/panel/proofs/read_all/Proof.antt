@@ -6,10 +6,11 @@ use Rattle.panel.proofs.read_all.Statement.{statement}
 use Rattle.panel.proofs.read_all.Tie as tie
 
 abbrev Inv-loop : tie.InvT-loop
-Inv-loop samples₀ out₀ s₀ left₀ samples out s left = (length samples ≡ length samples₀) × (length out ≡ length out₀)
+Inv-loop string₀ samples₀ out₀ s₀ left₀ string samples out s left =
+    (length string ≡ length string₀) × (length samples ≡ length samples₀) × (length out ≡ length out₀)
 
 abbrev μ-loop : tie.MeasureT-loop
-μ-loop samples₀ out₀ s₀ left₀ samples out s left = left
+μ-loop string₀ samples₀ out₀ s₀ left₀ string samples out s left = left
 
 loop-holds : tie.Need-loop-holds Inv-loop μ-loop
 loop-holds c = search needs
@@ -32,14 +33,20 @@ same-length c = search needs
 same-length-2 : tie.Need-same-length-2 Inv-loop μ-loop
 same-length-2 c = search needs
 
-returns : tie.Need-returns Inv-loop μ-loop
-returns c = search needs
-
 same-length-3 : tie.Need-same-length-3 Inv-loop μ-loop
 same-length-3 c = search needs
 
+returns : tie.Need-returns Inv-loop μ-loop
+returns c = search needs
+
 same-length-4 : tie.Need-same-length-4 Inv-loop μ-loop
 same-length-4 c = search needs
+
+same-length-5 : tie.Need-same-length-5 Inv-loop μ-loop
+same-length-5 c = search needs
+
+same-length-6 : tie.Need-same-length-6 Inv-loop μ-loop
+same-length-6 c = search needs
 
 returns-2 : tie.Need-returns-2 Inv-loop μ-loop
 returns-2 c = search needs
@@ -57,7 +64,9 @@ read-all-spec =
     loop-again
     same-length
     same-length-2
-    returns
     same-length-3
+    returns
     same-length-4
+    same-length-5
+    same-length-6
     returns-2)

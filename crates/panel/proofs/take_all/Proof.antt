@@ -1,16 +1,18 @@
 -- `panel::take_all` is safe and ends: the measure is what is left of the bytes. Assumes nothing.
 use Prim.Native.Nat.{_≤_, _-_}
+use native.Mathlib.Omega.{arith}
 use mathlib.Core.Path.{_≡_}
-use borrow.Author.Needs.{needs}
 use lib.ListN.{length}
+use borrow.Author.Needs.{needs}
 use Rattle.panel.proofs.take_all.Statement.{statement}
 use Rattle.panel.proofs.take_all.Tie as tie
 
 abbrev Inv-loop : tie.InvT-loop
-Inv-loop bytes samples₀ out₀ s₀ i₀ samples out s i = (i ≤ length bytes) × ((length samples ≡ length samples₀) × (length out ≡ length out₀))
+Inv-loop bytes string₀ samples₀ out₀ s₀ i₀ string samples out s i =
+    (i ≤ length bytes) × (length string ≡ length string₀) × (length samples ≡ length samples₀) × (length out ≡ length out₀)
 
 abbrev μ-loop : tie.MeasureT-loop
-μ-loop bytes samples₀ out₀ s₀ i₀ samples out s i = length bytes - i
+μ-loop bytes string₀ samples₀ out₀ s₀ i₀ string samples out s i = length bytes - i
 
 loop-holds : tie.Need-loop-holds Inv-loop μ-loop
 loop-holds c = search needs
@@ -22,7 +24,7 @@ take-requires : tie.Need-take-requires Inv-loop μ-loop
 take-requires c κs = search needs
 
 add-i : tie.Need-add-i Inv-loop μ-loop
-add-i c = search needs
+add-i c = omega (arith, c .before .before .before .before .before .before .before .before .before .before .before .loop-test .taken, c .before .before .before .before .before .before .before .before .before .before .before .before .before .before .before .before .before .good .1 .0 .0)
 
 loop-less : tie.Need-loop-less Inv-loop μ-loop
 loop-less c = search needs
@@ -35,6 +37,9 @@ same-length c = search needs
 
 same-length-2 : tie.Need-same-length-2 Inv-loop μ-loop
 same-length-2 c = search needs
+
+same-length-3 : tie.Need-same-length-3 Inv-loop μ-loop
+same-length-3 c = search needs
 
 returns : tie.Need-returns Inv-loop μ-loop
 returns c = search needs
@@ -53,4 +58,5 @@ take-all-spec =
     loop-again
     same-length
     same-length-2
+    same-length-3
     returns)

@@ -1,4 +1,4 @@
--- `console::lines::added` meets its contract: by the letter, C or another. Assumes nothing.
+-- `console::lines::added` meets its contract: by the letter, C, M or another. Assumes nothing.
 use borrow.Author.Needs.{needs}
 use borrow.Author.Tests.{eq-eqb, ne-eqb}
 use Rattle.console.specs.Lines.{addedCall}
@@ -12,9 +12,16 @@ returns : tie.Need-returns
 unfolding addedCall
 returns c = rw (eq-eqb _ _ (c .before .if1 .taken)) (c .cue .ensures)
 
+kept-requires : tie.Need-kept-requires
+kept-requires c κs = search needs
+
 returns-2 : tie.Need-returns-2
 unfolding addedCall
-returns-2 c = rw (ne-eqb _ _ (c .if1 .left))
+returns-2 c = rw (ne-eqb _ _ (c .before .before .if1 .left), eq-eqb _ _ (c .before .if2 .taken)) (c .kept .ensures)
+
+returns-3 : tie.Need-returns-3
+unfolding addedCall
+returns-3 c = rw (ne-eqb _ _ (c .before .if1 .left), ne-eqb _ _ (c .if2 .left))
 
 pub added-spec : {M : Type 1} → statement M
-added-spec = tie.close (tie.spec cue-requires returns returns-2)
+added-spec = tie.close (tie.spec cue-requires returns kept-requires returns-2 returns-3)

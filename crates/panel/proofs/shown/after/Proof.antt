@@ -1,4 +1,4 @@
--- `shown::after` meets its contract: line by line of 01's list. Assumes nothing.
+-- `shown::after` meets its contract: line by line. Assumes nothing.
 use borrow.Author.Needs.{needs}
 use Rattle.panel.proofs.shown.after.Statement.{statement}
 use Rattle.panel.proofs.shown.after.Tie as tie
@@ -45,6 +45,18 @@ enum-told-2 c = search needs
 nothing-requires : tie.Need-nothing-requires
 nothing-requires c κs = search needs
 
+enum-known-call-6 : tie.Need-enum-known-call-6
+enum-known-call-6 c = search needs
+
+typed-all-requires : tie.Need-typed-all-requires
+typed-all-requires c κs = search needs
+
+enum-told-3 : tie.Need-enum-told-3
+enum-told-3 c = search needs
+
+nothing-requires-2 : tie.Need-nothing-requires-2
+nothing-requires-2 c κs = search needs
+
 returns : tie.Need-returns
 returns c = rw (c .before .before .call .given .1) (c .made .ensures)
 
@@ -72,6 +84,18 @@ returns-6 c = rw (c .before .before .call5 .given .1) (c .cued .ensures)
 returns-7 : tie.Need-returns-7
 returns-7 c = rw (c .before .enum-told2 .given .1) (c .nothing .ensures)
 
+same-length-3 : tie.Need-same-length-3
+same-length-3 c = search needs
+
+same-length-4 : tie.Need-same-length-4
+same-length-4 c = search needs
+
+returns-8 : tie.Need-returns-8
+returns-8 c = rw (c .before .before .before .before .before .before .before .before .call6 .given .1) (c .before .before .before .before .typed-all .ensures)
+
+returns-9 : tie.Need-returns-9
+returns-9 c = rw (c .before .enum-told3 .given .1) (c .nothing2 .ensures)
+
 pub after-spec : {M : Type 1} → statement M
 after-spec =
     tie.close
@@ -90,6 +114,10 @@ after-spec =
     cued-requires
     enum-told-2
     nothing-requires
+    enum-known-call-6
+    typed-all-requires
+    enum-told-3
+    nothing-requires-2
     returns
     same-length
     returns-2
@@ -98,4 +126,8 @@ after-spec =
     returns-4
     returns-5
     returns-6
-    returns-7)
+    returns-7
+    same-length-3
+    same-length-4
+    returns-8
+    returns-9)

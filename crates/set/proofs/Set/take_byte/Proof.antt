@@ -1,0 +1,27 @@
+-- `Set::take_byte` meets its contract: by what the processor and the control ensure. Assumes nothing.
+use Rattle.control.specs.Control.{heard}
+use borrow.Author.Needs.{needs}
+use Rattle.set.proofs.Set.take_byte.Statement.{statement}
+use Rattle.set.proofs.Set.take_byte.Tie as tie
+
+heard-in-requires : tie.Need-heard-in-requires
+heard-in-requires c κs = search needs
+
+feed-requires : tie.Need-feed-requires
+feed-requires c κs = search needs
+
+apply-requires : tie.Need-apply-requires
+apply-requires c κs = search needs
+
+same-length : tie.Need-same-length
+same-length c = search needs
+
+returns : tie.Need-returns
+unfolding heard
+returns c =
+    let p = c .before .before .before .before .before .feed .ensures in
+    (rw (c .apply .ensures, p .0, c .before .before .before .before .before .before .before .heard-in .ensures), p .1)
+
+pub take-byte-spec : {M : Type 1} → statement M
+take-byte-spec =
+    tie.close (tie.spec heard-in-requires feed-requires apply-requires same-length returns)
