@@ -1,4 +1,4 @@
-.PHONY: rt call show test oracle listen bench edits c stage
+.PHONY: rt call show cues test oracle listen bench edits c stage
 
 # Rattle's toolchain, by which every program here is proved and built.
 rt:
@@ -13,6 +13,14 @@ call: rt
 # The show: sound and icons live, over JACK. It is built to target/bin/show.
 show: rt
 	show/build
+
+# The cue stack of a call before the call: make cues DIGITS=5551234 RATE=48000. The library is proved before it is built.
+DIGITS = 5551234
+RATE = 48000
+cues: rt
+	@mkdir -p target/bin && { rt staticlib gibbonplate >target/cues.log 2>&1 || { cat target/cues.log; exit 1; }; }
+	@$(CC) -std=c99 -O2 -Wall -Wextra -Iinclude examples/cues.c target/staticlib/libgibbonplate.a -o target/bin/cues
+	@target/bin/cues '$(DIGITS)' '$(RATE)'
 
 # The gate.
 test: rt

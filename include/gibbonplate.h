@@ -12,6 +12,9 @@
  *     gibbonplate_advance_time(&set, ns, ...);   // time passes
  *     gibbonplate_process_out(&set, buffer, n);  // the card wants samples
  *
+ * How long a call will be, stage by stage, is told before it is made, by the last three functions: they
+ * take digits and a rate, and no set.
+ *
  * Every call answers. A call that is declined answers one of the numbers of gibbonplate_refusal, and
  * leaves the set and every buffer as they were, creation apart. Memory that holds no set, or one that
  * no calls can reach, is declined with 6 by every call but creation and the plain readers. All of this
@@ -53,14 +56,15 @@ typedef struct gibbonplate_set {
 /* Why a call was declined. Number 4 is given no more. */
 enum gibbonplate_refusal {
     GIBBONPLATE_ACCEPTED = 0,
-    GIBBONPLATE_BAD_RATE = 1,      /* creation: a rate outside 8,000 to 192,000 */
+    GIBBONPLATE_BAD_RATE = 1,      /* creation, a plan: a rate outside 8,000 to 192,000 */
     GIBBONPLATE_SHORT_OUTBOX = 2,  /* a typed byte: an outbox under 4 bytes */
     GIBBONPLATE_LONG_FILL = 3,     /* a fill of over 65,536 samples */
     GIBBONPLATE_LINE_UP = 5,       /* a fill in state 3 */
     GIBBONPLATE_UNSOUND = 6,       /* the memory holds no set that calls can reach */
     GIBBONPLATE_BAD_POSITION = 7,  /* a cue: nothing is being dialled, or it has no such digit */
     GIBBONPLATE_LONG_STRING = 8,   /* a string of over 256 bytes */
-    GIBBONPLATE_STRING_ROOM = 9    /* a string: an outbox under 4 bytes a byte, or a code buffer under 2 */
+    GIBBONPLATE_STRING_ROOM = 9,   /* a string: an outbox under 4 bytes a byte, or a code buffer under 2 */
+    GIBBONPLATE_LONG_NUMBER = 10   /* a plan: over 76 bytes, keys or not */
 };
 
 /* The states. */
@@ -235,6 +239,29 @@ static inline size_t gibbonplate_digits(const gibbonplate_set *set, uint8_t digi
  * code, or an out that is too short, gives 0 and leaves out as it was.
  */
 size_t gibbonplate_write_reply(uint8_t code, uint8_t *out, size_t len);
+
+/*
+ * The length of a call before the call: for digit bytes and a rate, the samples of each of its stages
+ * and of all of them. These need no set and make no sample, and they tell what a set at that rate will
+ * play once it has dialled those bytes. As in a dial line small letters are raised, and bytes that are
+ * no keys (0 to 9, A to D, * and #) are dropped. digits is read only; null with length 0 is right, and
+ * tells of a call with no digits, as any bytes do of which none is a key.
+ *
+ * All three see the rate first and then the length: a rate outside 8,000 to 192,000 is declined with
+ * 1, else more than 76 bytes, keys or not, with 10. Declined, every count is 0.
+ */
+
+/* 0 where there are counts, else 1 or 10. */
+uint8_t gibbonplate_plan_refusal(const uint8_t *digits, size_t len, uint32_t rate);
+
+/* The samples of a stage, 1 to 9; 0 for another number, and where gibbonplate_plan_refusal declines. */
+uint32_t gibbonplate_stage_samples(const uint8_t *digits, size_t len, uint32_t rate, uint32_t stage);
+
+/*
+ * T, the samples of stages 1 to 9 together, at most 4,798,406; 0 where gibbonplate_plan_refusal declines.
+ * The first sample of stage k is 1 and the samples of the stages before k; T + 1 would be Connected's.
+ */
+uint32_t gibbonplate_total_samples(const uint8_t *digits, size_t len, uint32_t rate);
 
 #ifdef __cplusplus
 }

@@ -163,28 +163,13 @@ static void at_terminal(show *s, panel *p, int wait_ms)
 
 /* ---- what happened, once it is heard */
 
-/* T: from the digits, with a set of its own, played until the line is up. */
+/* T of the call that the set has dialled. */
 static uint32_t total(const gibbonplate_set *call)
 {
-    static float samples[GIBBONPLATE_MAX_FILL];
-    uint8_t digits[GIBBONPLATE_MAX_DIGITS], outbox[GIBBONPLATE_MIN_OUTBOX];
-    size_t count = gibbonplate_digits(call, digits), i, len = GIBBONPLATE_MAX_FILL;
-    gibbonplate_answer answer;
-    gibbonplate_set set, next;
+    uint8_t digits[GIBBONPLATE_MAX_DIGITS];
+    size_t count = gibbonplate_digits(call, digits);
 
-    gibbonplate_new(&set, gibbonplate_rate(call));
-    for (i = 0; i < 4 + count + 1; i++)
-        gibbonplate_feed(&set, i < 4 ? (uint8_t)"ATDT"[i] : i < 4 + count ? digits[i - 4] : '\r', false, outbox, sizeof outbox, &answer);
-    while (len > 0) {
-        next = set;
-        if (gibbonplate_process_out(&next, samples, len) != GIBBONPLATE_ACCEPTED)
-            return 0;
-        if (gibbonplate_state(&next) == GIBBONPLATE_CONNECTED)
-            len /= 2;
-        else
-            set = next;
-    }
-    return gibbonplate_m(&set);
+    return gibbonplate_total_samples(digits, count, gibbonplate_rate(call));
 }
 
 static void heard(desk *d, panel *p, const show_event *e, uint64_t lit)

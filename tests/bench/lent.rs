@@ -34,6 +34,12 @@ extern "C" {
     fn gibbonplate_process_out_in(
         l: &mut Longs, c: &mut Counts, r: &mut Reals, m: &mut Marks, b: &mut Line, k: &mut Keys, samples: &mut [f32],
     ) -> u8;
+    fn gibbonplate_total_samples(digits: &[u8], rate: u32) -> u32;
+}
+
+/// T, before the call.
+pub fn total_samples(digits: &[u8], rate: u32) -> u32 {
+    unsafe { gibbonplate_total_samples(digits, rate) }
 }
 
 impl Lent {

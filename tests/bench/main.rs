@@ -53,6 +53,7 @@ fn main() {
     let bench = Bench { rounds };
     let equal = [bench.overtures(), bench.stages(), bench.lengths(), bench.digits()];
     bench.calls();
+    bench.plans();
     if equal.contains(&false) {
         println!("\nTHE BITS DIFFER");
         std::process::exit(1);
@@ -296,6 +297,33 @@ impl Bench {
         assert_eq!(start.sound(CALLS), CALLS);
         let port = self.best_of_port(|turns| start.sound(turns));
         println!("{:<21} {:>8} {port:>8.1}", "soundness alone", "-");
+    }
+
+    /// T before the call, against filling the call that it tells of.
+    fn plans(&self) {
+        println!("\nT before the call, against filling it in buffers of 4096, microseconds");
+        println!("{:>10} {:>10} {:>10} {:>10} {:>10} {:>10}", "rate", "digits", "T", "before", "filling", "times");
+        for (rate, digits) in [(48_000, DIGITS), (192_000, &[b'7'; 76][..])] {
+            let total = stage_lengths(rate, digits).iter().sum::<usize>();
+            assert_eq!(lent::total_samples(digits, rate) as usize, total);
+            let mut out = vec![0.0; total];
+            let (mut before, mut filling) = (f64::MAX, f64::MAX);
+            for _ in 0..self.rounds {
+                before = before.min(nanoseconds(|| {
+                    black_box(lent::total_samples(black_box(digits), black_box(rate)));
+                }));
+                let mut set = Lent::at(Start { rate, digits, skip: 0 });
+                filling = filling.min(nanoseconds(|| {
+                    for part in out.chunks_mut(4096) {
+                        set.process_out(part);
+                    }
+                }));
+            }
+            println!(
+                "{rate:>10} {:>10} {total:>10} {:>10.1} {:>10.1} {:>10.0}",
+                digits.len(), before / 1e3, filling / 1e3, filling / before
+            );
+        }
     }
 
     fn best(&self, mut round: impl FnMut() -> f64) -> f64 {

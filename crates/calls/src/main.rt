@@ -1,7 +1,8 @@
-// The calls that no other program makes: the writer of replies, the digits' reader, the lent oscillator,
-// and every call on sets that are not sound; the cue, and strings. Buffers are dots, or samples of 1.23, before
-// each call, and are printed whole after it.
+// The calls that no other program makes: the writer of replies, the digits' reader, the length of a call
+// before the call, the lent oscillator, and every call on sets that are not sound; the cue, and strings.
+// Buffers are dots, or samples of 1.23, before each call, and are printed whole after it.
 mod lent;
+mod plans;
 mod sets;
 mod tried;
 mod unsound;
@@ -11,6 +12,7 @@ fn main() {
     cues();
     declined();
     strings();
+    plans::plans();
     lent::oscillators();
     unsound::processors();
     unsound::sessions();

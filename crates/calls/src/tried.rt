@@ -182,7 +182,7 @@ fn put_cue(page: &mut [u8], at: usize, set: Set, position: u32) -> usize {
     put_number(page, k, b" ", cued.sample)
 }
 
-fn put_number(page: &mut [u8], at: usize, label: &[u8], number: u64) -> usize {
+pub fn put_number(page: &mut [u8], at: usize, label: &[u8], number: u64) -> usize {
     let k = text::put(page, at, label);
     text::put_decimal(page, k, number)
 }

@@ -3,8 +3,15 @@
 use memory::MARKS;
 use set::Set;
 ghost use mathlib.Core.Path.{_≡_};
+ghost use Prim.Native.Nat.{_≤_};
 ghost use lib.ListN.{length};
 ghost use Rattle.ascii.specs.Front.{put, putLength};
+ghost use Rattle.keys.specs.Keys.{digitsOf};
+ghost use Rattle.schedule.specs.Time.{minRate, maxRate};
+ghost use Rattle.schedule.specs.Length.{maxDigits};
+ghost use Rattle.schedule.specs.Bounds.{TotalBounds};
+ghost use Rattle.passage.specs.Overture.{HasLength};
+ghost use Rattle.plan.specs.Plan.{planRefusalNumber, planCause, stageSamples, totalSamples};
 ghost use Rattle.reply.specs.Texts.{textOf};
 ghost use Rattle.at.specs.Processor.{commandMode};
 ghost use Rattle.session.specs.Session.{stateNumber};
@@ -312,4 +319,29 @@ pub extern "C" fn gibbonplate_write_reply(code: u8, out: &mut [u8]) -> usize
     ensures { λ _. ⌜ now (out .exit) ≡ put (textOf code) (now (out .entry)) ⌝ }
 {
     reply::write_reply(code, out)
+}
+
+// The length of a call before the call. It needs no set.
+#[no_mangle]
+pub extern "C" fn gibbonplate_plan_refusal(digits: &[u8], rate: u32) -> u8
+    ensures { λ r. ⌜ r ≡ planRefusalNumber (planCause (length (now (digits .entry))) rate) ⌝ }
+{
+    let refusal = plan::plan_refusal(digits, rate);
+    refusal.number()
+}
+
+#[no_mangle]
+pub extern "C" fn gibbonplate_stage_samples(digits: &[u8], rate: u32, stage: u32) -> u32
+    ensures { λ n. ⌜ n ≡ stageSamples (now (digits .entry)) rate stage ⌝ }
+{
+    plan::stage_samples(digits, rate, stage)
+}
+
+#[no_mangle]
+pub extern "C" fn gibbonplate_total_samples(digits: &[u8], rate: u32) -> u32
+    ensures { λ T. ⌜ T ≡ totalSamples (now (digits .entry)) rate ⌝ }
+    ensures { λ T. ⌜ (minRate ≤ rate → rate ≤ maxRate → length (now (digits .entry)) ≤ maxDigits → HasLength (digitsOf (now (digits .entry))) rate T) ⌝ }
+    ensures { λ _. ⌜ (minRate ≤ rate → rate ≤ maxRate → length (now (digits .entry)) ≤ maxDigits → TotalBounds rate (length (digitsOf (now (digits .entry))))) ⌝ }
+{
+    plan::total_samples(digits, rate)
 }

@@ -3,7 +3,7 @@ use mathlib.Core.Path.{_≡_, refl, sym, subst, _∙_}
 use mathlib.Core.Logic.{inl, inr}
 use mathlib.Core.Bool.{Bool, true, false, not, true≢false}
 use Prim.Native.Nat.{ℕ, zero, suc, _+_, _*_, _≤_, _<_}
-use native.Mathlib.Nat.{le-refl, le-trans, le-of-eq, le-suc, eq-or-lt-of-le, add-zero}
+use native.Mathlib.Nat.{le-refl, le-trans, le-of-eq, le-suc, le-antisymm, le-of-suc-le-suc, lt-of-not-le, not-le-of-lt, eq-or-lt-of-le, add-zero}
 use native.Mathlib.Omega.{arith}
 use lib.Dec.{T, leb, leb→le, nleb→lt, le→leb}
 use Rattle.schedule.specs.Length.{firstFrom}
@@ -34,6 +34,13 @@ pub record Reaches (count : ℕ → ℕ) (N m : ℕ) : Type 0 where
   pub some : 1 ≤ m
   pub reached : N ≤ count m
   pub before : (n : ℕ) → 1 ≤ n → n < m → count n < N
+
+-- there is one such number
+pub reaches-once : (count : ℕ → ℕ) (N m n : ℕ) → Reaches count N m → Reaches count N n → m ≡ n
+reaches-once count N m n a b = le-antisymm (not-later n m b a) (not-later m n a b)
+  where
+    not-later : (m n : ℕ) → Reaches count N m → Reaches count N n → n ≤ m
+    not-later m n a b = le-of-suc-le-suc (lt-of-not-le (λ (g : suc m ≤ n). not-le-of-lt (b .before m (a .some) g) (a .reached)))
 
 pub first-reaches : (count : ℕ → ℕ) (N k : ℕ) → N ≤ count (1 + k)
     → (m : ℕ) → m ≡ firstFrom (λ n. leb N (count n)) k (leb N (count 1)) 1 → Reaches count N m × (m ≤ 1 + k)
