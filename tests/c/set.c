@@ -141,6 +141,63 @@ static void call(const char *digits, uint32_t rate, const char *path)
 
 /* ---- refusals, readers, replies */
 
+/* Every call that checks the set declines it with 6, and all stays as it was. */
+static void declined_with_6(gibbonplate_set set)
+{
+    gibbonplate_set was = set;
+    gibbonplate_answer answer;
+    uint8_t outbox[4] = {7}, codes[2] = {7, 7}, ring;
+    size_t sent = 7;
+    float sample = 3;
+    uint64_t cued;
+
+    CHECK(gibbonplate_feed(&set, 'A', false, outbox, 4, &answer) == 6 && outbox[0] == 7);
+    CHECK(gibbonplate_feed_all(&set, (const uint8_t *)"A", 1, false, outbox, 4, codes, 2, &sent) == 6 && sent == 0 && outbox[0] == 7 && codes[0] == 7);
+    CHECK(gibbonplate_feed_all(&set, NULL, 0, false, NULL, 0, NULL, 0, &sent) == 6);
+    CHECK(gibbonplate_advance_time(&set, 1, false, &answer) == 6);
+    CHECK(gibbonplate_force_data_mode(&set) == 6);
+    CHECK(gibbonplate_process_out(&set, &sample, 1) == 6 && sample == 3);
+    CHECK(gibbonplate_process_out(&set, NULL, 0) == 6);
+    CHECK(gibbonplate_ring(&set, &ring) == 6 && ring == 0);
+    CHECK(gibbonplate_cue(&set, 0, &cued) == 6 && cued == 0);
+    CHECK(memcmp(&set, &was, sizeof set) == 0);
+}
+
+/* Bits done have 16 bits: more are declined, also where the low 16 of them are a count of the stage's own. */
+static void bits(void)
+{
+    static const struct {
+        uint8_t stage;
+        uint32_t end;
+    } stages[] = {{5, 60}, {7, 80}, {8, 61}, {9, 300}};
+    gibbonplate_set set;
+    float samples[100];
+    size_t i;
+
+    CHECK(gibbonplate_new(&set, 8000) == 0);
+    type(&set, "ATDT12\r");
+    for (i = 0; i < sizeof stages / sizeof *stages; i++) {
+        uint32_t done;
+        while (set.marks[5] != stages[i].stage)
+            CHECK(gibbonplate_process_out(&set, samples, 100) == 0);
+        for (done = 0; done < stages[i].end; done++) {
+            gibbonplate_set made = set;
+            made.counts[2] = done;
+            CHECK(gibbonplate_force_data_mode(&made) == 0 && made.counts[2] == done);
+            made.counts[2] = 65536 + done;
+            declined_with_6(made);
+            CHECK(gibbonplate_state(&made) == GIBBONPLATE_DIALLING && gibbonplate_m(&made) == set.counts[1]);
+            made.counts[2] = 4294901760u + done;
+            declined_with_6(made);
+        }
+        for (; done <= 65536; done++) {
+            gibbonplate_set made = set;
+            made.counts[2] = done;
+            CHECK(gibbonplate_force_data_mode(&made) == 6);
+        }
+    }
+}
+
 static void refusals(void)
 {
     gibbonplate_set set, was;
@@ -248,18 +305,9 @@ static void refusals(void)
 
     /* 6 */
     set.counts[0] = 7999;
-    was = set;
-    memset(outbox, 7, sizeof outbox);
-    samples[0] = 3;
-    CHECK(gibbonplate_feed(&set, 'A', false, outbox, 4, &answer) == 6 && outbox[0] == 7);
     CHECK(gibbonplate_feed_all(&set, string, 257, false, sends, 0, codes, 0, &sent) == 6 && sent == 0 && sends[0] == 'a');
-    CHECK(gibbonplate_feed_all(&set, NULL, 0, false, NULL, 0, NULL, 0, &sent) == 6);
-    CHECK(gibbonplate_advance_time(&set, 1, false, &answer) == 6);
-    CHECK(gibbonplate_force_data_mode(&set) == 6);
-    CHECK(gibbonplate_process_out(&set, samples, 1) == 6 && samples[0] == 3);
-    CHECK(gibbonplate_ring(&set, &ring) == 6 && ring == 0);
-    CHECK(gibbonplate_cue(&set, 0, &sample) == 6 && sample == 0);
-    CHECK(memcmp(&set, &was, sizeof set) == 0);
+    declined_with_6(set);
+    bits();
     memset(&set, 0xFF, sizeof set);
     CHECK(gibbonplate_process_out(&set, samples, 1) == 6 && gibbonplate_rate(&set) == 0 && gibbonplate_mode(&set) == 'C');
     memset(&set, 0, sizeof set);
@@ -364,7 +412,7 @@ static void scribble(gibbonplate_set *set)
 {
     static const double reals[] = {0.0, -0.0, 1.0, 0.9999999999999999, 6.283185307179586, 6.283185307179585,
                                    -1.0, 8000.0, 0.0375, 1e308, 4.9e-324};
-    static const uint64_t numbers[] = {0, 1, 2, 3, 4, 9, 10, 11, 60, 61, 76, 77, 80, 81, 255, 256, 300, 400,
+    static const uint64_t numbers[] = {0, 1, 2, 3, 4, 9, 10, 11, 60, 61, 76, 77, 80, 81, 255, 256, 300, 400, 65535, 65536, 65595,
                                        699999999, 700000000, 5000000, 5000001, 4294967295, 18446744073709551615u};
     size_t times = below(4);
 

@@ -19,6 +19,7 @@ fn main() {
     unsound::oscillators();
     unsound::symbols();
     unsound::counts();
+    unsound::most_bits();
     unsound::ends();
 }
 

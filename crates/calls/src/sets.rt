@@ -115,13 +115,13 @@ pub fn tone() -> Nco {
     Nco::new(440.0, 8000.0)
 }
 
-pub fn channel(done: u32, phase: f64, step: f64) -> FskChannel {
+pub fn channel(done: u16, phase: f64, step: f64) -> FskChannel {
     let nco = tone();
     let modulator = Modulator { nco, phase, step };
     FskChannel { modulator, done }
 }
 
 // A channel at the beginning of a bit.
-pub fn sent(done: u32) -> FskChannel {
+pub fn sent(done: u16) -> FskChannel {
     channel(done, 0.0, schedule::symbol_step(8000))
 }

@@ -45,7 +45,7 @@ pub fn symbols() {
     tried::calls(b"60 bits of Ci", in_ci(60, 0.0, step));
 }
 
-fn in_ci(done: u32, phase: f64, step: f64) -> set::Set {
+fn in_ci(done: u16, phase: f64, step: f64) -> set::Set {
     sets::stage(StageState::Ci(sets::channel(done, phase, step)))
 }
 
@@ -63,7 +63,19 @@ pub fn counts() {
     tried::calls(b"61 bits of Cj", in_cj(61, 0));
 }
 
-fn in_cj(done: u32, silence_n: u32) -> set::Set {
+// The largest number of bits that a channel can count.
+pub fn most_bits() {
+    let most = sets::sent(65535);
+    tried::calls(b"65535 bits of Ci", sets::stage(StageState::Ci(most)));
+    tried::calls(b"65535 bits of CmJm", sets::stage(StageState::CmJm(most)));
+    tried::calls(b"65535 bits of Cj", in_cj(65535, 0));
+    tried::calls(
+        b"65535 bits of Training",
+        sets::stage(StageState::Training(most)),
+    );
+}
+
+fn in_cj(done: u16, silence_n: u32) -> set::Set {
     let fsk = sets::sent(done);
     sets::stage(StageState::Cj { fsk, silence_n })
 }

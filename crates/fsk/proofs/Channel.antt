@@ -10,13 +10,12 @@ use lib.Seq.{drop-cons}
 use borrow.Author.Tests.{ltb-true, ltb-false}
 use Rattle.math.specs.Float.{f64, ofNat}
 use Rattle.frame.specs.Frame.{framed, bitAt}
-use Rattle.schedule.specs.Time.{saturatingInc}
 use Rattle.schedule.specs.Symbols.{nextPhase, doneBy}
-use Rattle.schedule.proofs.Count.{saturating-inc-is}
+use Rattle.schedule.proofs.Count.{inc-below}
 use Rattle.fsk.specs.declared.Modulator.{Modulator}
 use Rattle.fsk.specs.declared.FskChannel.{FskChannel}
 use Rattle.fsk.specs.Modulator.{keyed, bitEnds, nextModulator}
-use Rattle.fsk.specs.Channel.{nextKeyed, channelBy, nextChannel}
+use Rattle.fsk.specs.Channel.{nextKeyed, mostDone, oneMoreDone, channelBy, nextChannel}
 
 -- the code's literals are 01's numbers
 pub mark-is : f64 0x408e_a000_0000_0000 ≡ ofNat 980
@@ -50,7 +49,7 @@ module _ (f : FskChannel) (payload : List ℕ) where
   next-phase = go (bitEnds (f .modulator))
     where
       go : (b : Bool) → channelBy b f payload .modulator .phase ≡ nextPhase (f .modulator .step) (f .modulator .phase)
-      go true = keyed-phase (drop (saturatingInc (f .done)) (framed payload)) (nextModulator (f .modulator))
+      go true = keyed-phase (drop (oneMoreDone (f .done)) (framed payload)) (nextModulator (f .modulator))
       go false = refl
 
   pub next-step : nextChannel f payload .modulator .step ≡ f .modulator .step
@@ -58,14 +57,14 @@ module _ (f : FskChannel) (payload : List ℕ) where
   next-step = go (bitEnds (f .modulator))
     where
       go : (b : Bool) → channelBy b f payload .modulator .step ≡ f .modulator .step
-      go true = keyed-step (drop (saturatingInc (f .done)) (framed payload)) (nextModulator (f .modulator))
+      go true = keyed-step (drop (oneMoreDone (f .done)) (framed payload)) (nextModulator (f .modulator))
       go false = refl
 
   -- one more bit is done, or none
-  pub next-done : f .done < 0xffff_ffff → nextChannel f payload .done ≡ doneBy (bitEnds (f .modulator)) (f .done)
-  unfolding nextChannel
+  pub next-done : f .done < mostDone → nextChannel f payload .done ≡ doneBy (bitEnds (f .modulator)) (f .done)
+  unfolding nextChannel oneMoreDone
   next-done h = go (bitEnds (f .modulator))
     where
       go : (b : Bool) → channelBy b f payload .done ≡ doneBy b (f .done)
-      go true = saturating-inc-is (f .done) h ∙ add-one (f .done)
+      go true = inc-below mostDone (f .done) h ∙ add-one (f .done)
       go false = refl

@@ -6,7 +6,7 @@ use lib.ListN.{drop}
 use lib.Ieee.{Float}
 use Rattle.math.specs.Float.{ofNat}
 use Rattle.frame.specs.Frame.{framed, bitAt}
-use Rattle.schedule.specs.Time.{saturatingInc}
+use Rattle.schedule.specs.Time.{incUpTo}
 use Rattle.fsk.specs.declared.Modulator.{Modulator}
 use Rattle.fsk.specs.declared.FskChannel.{FskChannel}
 use Rattle.fsk.specs.Modulator.{freshModulator, keyed, modulatorSample, bitEnds, nextModulator}
@@ -23,12 +23,19 @@ abbrev pub nextKeyed : List Bool → Modulator → Modulator
 nextKeyed [] m = m
 nextKeyed (bit ∷ left) m = keyed m (ofNat 980) (ofNat 1180) bit
 
+-- 02, E5: the count of finished bits has 16 bits
+abbrev pub mostDone : ℕ
+mostDone = 0xffff
+
+unfoldable pub oneMoreDone : ℕ → ℕ
+oneMoreDone done = incUpTo mostDone done
+
 -- after a sample with which a bit is done, or none is
 abbrev pub channelBy : Bool → FskChannel → List ℕ → FskChannel
 channelBy true f payload =
     record {
-      modulator = nextKeyed (drop (saturatingInc (f .done)) (framed payload)) (nextModulator (f .modulator));
-      done = saturatingInc (f .done);
+      modulator = nextKeyed (drop (oneMoreDone (f .done)) (framed payload)) (nextModulator (f .modulator));
+      done = oneMoreDone (f .done);
     }
 channelBy false f payload = record { modulator = nextModulator (f .modulator); done = f .done }
 

@@ -7,7 +7,7 @@ ghost use mathlib.Core.Path.{_≡_};
 ghost use lib.ListN.{drop};
 ghost use Rattle.frame.specs.Frame.{framed};
 ghost use Rattle.fsk.specs.Modulator.{toneOf, freshModulator, keyed, modulatorSample, bitEnds, nextModulator};
-ghost use Rattle.fsk.specs.Channel.{freshChannel, nextKeyed, channelSample, nextChannel};
+ghost use Rattle.fsk.specs.Channel.{freshChannel, nextKeyed, channelSample, oneMoreDone, nextChannel};
 
 const V21_LOW_MARK: f64 = 980.0;
 
@@ -30,7 +30,7 @@ pub struct Ticked {
 
 pub struct FskChannel {
     pub modulator: Modulator,
-    pub done: u32,
+    pub done: u16,
 }
 
 // One sample, and the channel after it.
@@ -98,7 +98,7 @@ impl Modulator {
 }
 
 // Bit `index` of the payload sets the step; where there is no such bit the step stays.
-fn set_next(m: Modulator, payload: &[u8], index: u32) -> Modulator
+fn set_next(m: Modulator, payload: &[u8], index: u16) -> Modulator
     ensures { λ r. ⌜ r ≡ nextKeyed (drop index (framed (now (payload .entry)))) m ⌝ }
 {
     let at = index as usize;
@@ -106,6 +106,16 @@ fn set_next(m: Modulator, payload: &[u8], index: u32) -> Modulator
         return m.set_bit(V21_LOW_MARK, V21_LOW_SPACE, frame::payload_bit(payload, at));
     }
     m
+}
+
+// One more bit is done; the largest count stays.
+fn saturating_inc(done: u16) -> u16
+    ensures { λ r. ⌜ r ≡ oneMoreDone done ⌝ }
+{
+    if done < 0xffff {
+        return done + 1;
+    }
+    done
 }
 
 impl FskChannel {
@@ -127,7 +137,7 @@ impl FskChannel {
         let t = m.tick();
         let ticked = t.modulator;
         if t.done {
-            let k = schedule::saturating_inc(self.done);
+            let k = saturating_inc(self.done);
             return FskChannel {
                 modulator: set_next(ticked, payload, k),
                 done: k,

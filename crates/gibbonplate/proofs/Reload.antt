@@ -1,7 +1,7 @@
 -- What was stored is loaded as it was, part by part; and memory that holds no set loads as an unsound one: no sound set has rate 0.
 -- Assumes nothing.
 use Prim.Native.Nat.{_≤_}
-use mathlib.Core.Path.{_≡_, refl, ap, _∙_}
+use mathlib.Core.Path.{_≡_, refl, sym, ap, _∙_}
 use mathlib.Core.Bool.{Bool, true, false}
 use lib.Dec.{leb, eqb}
 use native.Mathlib.Omega.{arith}
@@ -16,6 +16,7 @@ use Rattle.set.specs.declared.Set.{Set}
 use Rattle.set.specs.Set.{freshSet}
 use Rattle.set.specs.Sound.{sound}
 use Rattle.set.proofs.Ranges.{sound-rate}
+use Rattle.gibbonplate.specs.declared.plain.PlainStage.{PlainStage}
 use Rattle.gibbonplate.specs.Memory.{Memory, plain, staged, stateAt, flag, stored, setIn, loaded}
 
 flag-low : (on : Bool) → leb (flag on) 1 ≡ true
@@ -52,34 +53,25 @@ stage-range (at.Cj f z) = (refl, refl)
 stage-range (at.Training f) = (refl, refl)
 stage-range at.Connected = (refl, refl)
 
-stage-back : (stage : StageState) → staged (plain stage) ≡ stage
-unfolding staged
-stage-back (at.OffHook rng n) = refl
-stage-back (at.DialTone a b n) = refl
-stage-back (at.Dialling i on a b n) = refl
-stage-back (at.Ringback a b n ring) = refl
-stage-back (at.Ci f) = refl
-stage-back (at.Ansam c e n) = refl
-stage-back (at.CmJm f) = refl
-stage-back (at.Cj f z) = refl
-stage-back (at.Training f) = refl
-stage-back at.Connected = refl
+-- the set's stage is read back from its numbers as it was: 16 bits hold its bits done
+abbrev StageBack : Set → Type 0
+StageBack s = staged (plain (s .session .stage)) ≡ s .session .stage
 
-back : (s : Set) → setIn (stored s) ≡ s
+back : (s : Set) → StageBack s → setIn (stored s) ≡ s
 unfolding setIn stored
-back s =
+back s stage-back =
     rw (
       flag-back (commandMode (s .processor)),
       flag-back (seen (s .processor)),
       flag-back (plain (s .session .stage) .tone),
       flag-back (ranOver (lineOf (s .processor))),
       state-back (s .session .state),
-      stage-back (s .session .stage),
+      stage-back,
     )
 
-reload : (s : Set) → loaded (stored s) ≡ s
+reload : (s : Set) → StageBack s → loaded (stored s) ≡ s
 unfolding loaded stored
-reload s =
+reload s stage-back =
     rw (
       flag-low (commandMode (s .processor)),
       flag-low (seen (s .processor)),
@@ -89,11 +81,11 @@ reload s =
       flag-low (plain (s .session .stage) .tone),
       flag-low (ranOver (lineOf (s .processor))),
     )
-    (back s)
+    (back s stage-back)
 
--- of memory with a set stored in it
-pub laid : (m : Memory) (s : Set) → m ≡ stored s → (m ≡ stored s) × (loaded m ≡ s)
-laid m s e = (e, ap loaded e ∙ reload s)
+-- of memory with a set stored in it, from the numbers of its stage
+pub laid : (m : Memory) (s : Set) (p : PlainStage) → (p ≡ plain (s .session .stage)) × (staged p ≡ s .session .stage) → m ≡ stored s → (m ≡ stored s) × (loaded m ≡ s)
+laid m s p (is, stage-back) e = (e, ap loaded e ∙ reload s (sym (ap staged is) ∙ stage-back))
 
 pub no-set : sound (freshSet 0) ≡ false
 no-set = by (sound (freshSet 0)) refl

@@ -1,14 +1,15 @@
 -- A set in memory that a C program lends: six arrays of plain numbers. 01 does not speak of it; what it owes is that loading what was
 -- stored gives the set back, and that memory which holds no set is an unsound set.
 use Prim.Native.Nat.{ℕ}
-use mathlib.Core.Bool.{Bool, true, false, _&&_, cond}
+use mathlib.Core.Bool.{Bool, true, false, _&&_, _||_, cond}
 use mathlib.Core.List.{List, [], _∷_}
-use lib.Dec.{leb, eqb}
+use lib.Dec.{leb, ltb, eqb}
 use lib.Ieee.{Float, nan}
 use lib.ListN.{getD}
 use Rattle.math.specs.Float.{zero}
 use Rattle.nco.specs.declared.Nco.{Nco}
 use Rattle.fsk.specs.declared.FskChannel.{FskChannel}
+use Rattle.fsk.specs.Channel.{mostDone}
 use Rattle.stage.specs.declared.StageState.{StageState}
 use Rattle.stage.specs.declared.StageState.the-variants as at
 use Rattle.command.specs.Line.{ranOver}
@@ -62,8 +63,12 @@ plain (at.Cj f z) = bitsPlain 8 f z
 plain (at.Training f) = bitsPlain 9 f 0
 plain at.Connected = tonesPlain 10 noNco noNco 0 0
 
+-- 02, E5: bits done have 16 bits. What these cannot hold is taken for their largest, which is above the end of every stage.
+unfoldable pub doneIn : ℕ → ℕ
+doneIn count = cond (leb count mostDone) count mostDone
+
 abbrev pub bitsOf : PlainStage → FskChannel
-bitsOf p = record { modulator = record { nco = p .a; phase = p .b .phase; step = p .b .step }; done = p .count }
+bitsOf p = record { modulator = record { nco = p .a; phase = p .b .phase; step = p .b .step }; done = doneIn (p .count) }
 
 -- the states that a stage's number may name
 abbrev pub stages : PlainStage → List StageState
@@ -128,6 +133,13 @@ holdsSet marks =
     && (leb 1 (getD marks 5 0)
     && (leb (getD marks 5 0) 10
     && (leb (getD marks 7 0) 1 && leb (getD marks 8 0) 1)))))
+
+-- the stage is Ci, CmJm, Cj or Training, and its bits done are more than 16 bits can hold: an unsound set
+abbrev pub sendsBits : ℕ → Bool
+sendsBits number = eqb number 5 || (eqb number 7 || (eqb number 8 || eqb number 9))
+
+abbrev pub tooManyBits : List ℕ → List ℕ → Bool
+tooManyBits counts marks = sendsBits (getD marks 5 0) && ltb mostDone (getD counts 2 0)
 
 abbrev pub plainIn : List ℕ → List ℕ → List Float → List ℕ → PlainStage
 plainIn longs counts reals marks =

@@ -8,10 +8,10 @@ use nco::Nco;
 use session::Session;
 use set::Set;
 ghost use mathlib.Core.Path.{_≡_};
-ghost use mathlib.Core.Bool.{false};
+ghost use mathlib.Core.Bool.{true, false};
 ghost use Rattle.set.specs.Sound.{sound};
 ghost use Rattle.set.specs.Set.{freshSet};
-ghost use Rattle.gibbonplate.specs.Memory.{memory, flag, stored, holdsSet, plainIn, processorIn, setIn, loaded, kept};
+ghost use Rattle.gibbonplate.specs.Memory.{memory, flag, stored, holdsSet, tooManyBits, plainIn, processorIn, setIn, loaded, kept};
 
 // How many marks a set has.
 pub const MARKS: usize = 9;
@@ -133,6 +133,7 @@ pub fn load(
 ) -> Set
     ensures { λ r. ⌜ r ≡ loaded (memory (now (longs .entry)) (now (counts .entry)) (now (reals .entry)) (now (marks .entry)) (now (line .entry)) (now (keys .entry))) ⌝ }
     ensures { λ r. ⌜ (holdsSet (now (marks .entry)) ≡ false → sound r ≡ false) ⌝ }
+    ensures { λ r. ⌜ (tooManyBits (now (counts .entry)) (now (marks .entry)) ≡ true → sound r ≡ false) ⌝ }
 {
     if holds_set(marks) {
         return set_in(longs, counts, reals, marks, line, keys);

@@ -4,8 +4,10 @@ use fsk::Modulator;
 use nco::Nco;
 use session::SessionState;
 use stage::StageState;
+ghost use Prim.Native.Nat.{_≤_};
 ghost use mathlib.Core.Path.{_≡_};
-ghost use Rattle.gibbonplate.specs.Memory.{noNco, bitsPlain, tonesPlain, plain, bitsOf, staged, stateAt};
+ghost use Rattle.fsk.specs.Channel.{mostDone};
+ghost use Rattle.gibbonplate.specs.Memory.{noNco, bitsPlain, tonesPlain, plain, doneIn, bitsOf, staged, stateAt};
 
 pub struct PlainStage {
     // 01's number
@@ -32,15 +34,18 @@ fn no_nco() -> Nco
     }
 }
 
+// Its second promise is what the type says: so many bits are read back as they were.
 fn bits_plain(number: u8, fsk: FskChannel, zeros: u32) -> PlainStage
     ensures { λ r. ⌜ r ≡ bitsPlain number fsk zeros ⌝ }
+    ensures { λ _. ⌜ fsk .done ≤ mostDone ⌝ }
 {
     let m = fsk.modulator;
     let a = m.nco;
+    let count = fsk.done as u32;
     PlainStage {
         number,
         own: 0,
-        count: fsk.done,
+        count,
         zeros,
         ring: 0,
         tone: false,
@@ -70,6 +75,7 @@ fn tones_plain(number: u8, a: Nco, b: Nco, count: u32, ring: u8) -> PlainStage
 
 pub fn plain(stage: StageState) -> PlainStage
     ensures { λ r. ⌜ r ≡ plain stage ⌝ }
+    ensures { λ r. ⌜ staged r ≡ stage ⌝ }
 {
     match stage {
         StageState::OffHook { rng, n } => {
@@ -115,6 +121,16 @@ pub fn plain(stage: StageState) -> PlainStage
     }
 }
 
+// A count of more bits than 16 bits can hold is the largest: no stage has so many, and the set is unsound.
+fn bits_done(count: u32) -> u16
+    ensures { λ r. ⌜ r ≡ doneIn count ⌝ }
+{
+    if count <= 0xffff {
+        return count as u16;
+    }
+    0xffff
+}
+
 fn bits(p: PlainStage) -> FskChannel
     ensures { λ r. ⌜ r ≡ bitsOf p ⌝ }
 {
@@ -125,7 +141,7 @@ fn bits(p: PlainStage) -> FskChannel
             phase: p.b.phase,
             step: p.b.step,
         },
-        done: p.count,
+        done: bits_done(p.count),
     }
 }
 

@@ -295,7 +295,7 @@ fn write_ansam(carrier: Nco, env: Nco, n: u32, digits: &[u8], rate: u32, out: &m
 
 // Bits, until all are done: the four stages that send some share this loop. It takes two samples a
 // turn, so that their sines share the lanes of one division.
-fn write_bits(fsk: FskChannel, payload: &[u8], total: u32, out: &mut [f32]) -> Sent
+fn write_bits(fsk: FskChannel, payload: &[u8], total: u16, out: &mut [f32]) -> Sent
     requires { ⌜ 0 < length (now out) ⌝ }
     ensures { λ w. ⌜ SentIs fsk (now (payload .entry)) total (now (out .entry)) (now (out .exit)) w ⌝ }
 {

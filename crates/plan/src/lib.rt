@@ -43,7 +43,7 @@ impl Refusal {
 struct Clock {
     n: u32,
     phase: f64,
-    done: u32,
+    done: u16,
 }
 
 // The clock when one more bit is done.
@@ -70,7 +70,7 @@ fn symbol(from: Clock, rate: u32) -> Clock
 }
 
 // The clock when so many bits are done. It may have passed fewer before.
-fn run_to(from: Clock, bits: u32, rate: u32) -> Clock
+fn run_to(from: Clock, bits: u16, rate: u32) -> Clock
     requires { ⌜ (minRate ≤ rate) × (rate ≤ maxRate) × (bits ≤ 300) × (from ≡ clockAfter rate (from .n)) × (from .done < bits) × ((j : ℕ) → j < from .n → doneAfter (symbolStep rate) j < bits) ⌝ }
     ensures { λ c. ⌜ (c ≡ clockAfter rate (bitsLength rate bits)) × (c .done ≡ bits) ⌝ }
 {

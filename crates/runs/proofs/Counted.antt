@@ -1,20 +1,21 @@
 -- The count after some samples more: their sum as far as there is room, and then the largest. By one sample after another. Assumes nothing.
-use mathlib.Core.Path.{_≡_, refl, ap, _∙_}
+use mathlib.Core.Path.{_≡_, ap, _∙_}
 use Prim.Native.Nat.{ℕ, zero, suc, _+_, _≤_, _<_}
+use native.Mathlib.Nat.{le-refl}
 use native.Mathlib.Omega.{arith}
 use mathlib.Core.Bool.{Bool, true, false, not}
 use lib.Dec.{T, ltb, ltb→lt, nltb→le}
-use Rattle.schedule.specs.Time.{saturatingInc, countUp}
-use Rattle.schedule.proofs.Count.{saturating-inc-is}
+use Rattle.schedule.specs.Time.{countUp, incUpTo, saturatingInc}
+use Rattle.schedule.proofs.Count.{inc-stays, saturating-inc-is}
 use Rattle.runs.specs.Runs.{counted}
 
 -- the largest stays
 largest : saturatingInc 0xffff_ffff ≡ 0xffff_ffff
 unfolding saturatingInc
-largest = refl
+largest = inc-stays 0xffff_ffff 0xffff_ffff (le-refl _)
 
 saturating-inc-le : (n : ℕ) → saturatingInc n ≤ n + 1
-unfolding saturatingInc
+unfolding saturatingInc incUpTo
 saturating-inc-le n = go (ltb n 0xffff_ffff)
   where
     go : (t : Bool) → countUp t n ≤ n + 1

@@ -21,10 +21,14 @@ timeAt r n = over (ofNat n) (ofNat r)
 unfoldable pub samplesIn : Float → ℕ → ℕ
 samplesIn s r = roundOf (times s (ofNat r))
 
--- n + 1. A count has 32 bits: the largest stays, which no sound set holds.
+-- n + 1. The largest that a count can hold stays, which no sound set holds.
 abbrev pub countUp : Bool → ℕ → ℕ
 countUp true n = n + 1
 countUp false n = n
 
+unfoldable pub incUpTo : (largest n : ℕ) → ℕ
+incUpTo largest n = countUp (ltb n largest) n
+
+-- a count of samples has 32 bits
 unfoldable pub saturatingInc : ℕ → ℕ
-saturatingInc n = countUp (ltb n 0xffff_ffff) n
+saturatingInc n = incUpTo 0xffff_ffff n

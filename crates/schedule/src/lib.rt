@@ -32,13 +32,13 @@ pub const ANSAM_REVERSAL_S: f64 = 0.45;
 const BAUD: f64 = 300.0;
 
 // The bits of each payload, ten a byte.
-pub const CI_BITS: u32 = 60;
+pub const CI_BITS: u16 = 60;
 
-pub const CMJM_BITS: u32 = 80;
+pub const CMJM_BITS: u16 = 80;
 
-pub const CJ_BITS: u32 = 60;
+pub const CJ_BITS: u16 = 60;
 
-pub const TRAINING_BITS: u32 = 300;
+pub const TRAINING_BITS: u16 = 300;
 
 // One more of a count; the largest stays.
 pub fn saturating_inc(n: u32) -> u32

@@ -18,7 +18,6 @@ use Rattle.math.specs.Float.{ofNat}
 use Rattle.math.proofs.Values.{nat-value, div-by, of-le}
 use Rattle.math.proofs.Equal.{eq-self, equal}
 use Rattle.frame.specs.Frame.{framed, bitAt}
-use Rattle.schedule.specs.Time.{saturatingInc}
 use Rattle.schedule.specs.Symbols.{symbolStep, inSymbol}
 use Rattle.schedule.proofs.Samples.{rate-value}
 use Rattle.schedule.proofs.Symbols.{step-value}
@@ -26,7 +25,7 @@ use Rattle.schedule.proofs.SymbolPhase.{zero-in-symbol, next-phase-fits, phase-
 use Rattle.fsk.specs.declared.Modulator.{Modulator}
 use Rattle.fsk.specs.declared.FskChannel.{FskChannel}
 use Rattle.fsk.specs.Modulator.{toneOf, freshModulator, keyed, bitEnds, nextModulator}
-use Rattle.fsk.specs.Channel.{freshChannel, nextKeyed, channelBy, nextChannel}
+use Rattle.fsk.specs.Channel.{freshChannel, nextKeyed, oneMoreDone, channelBy, nextChannel}
 use Rattle.soundness.specs.Sound.{ncoOk, modulatorOk}
 use Rattle.soundness.proofs.Limits.{holds, both-true}
 use Rattle.soundness.proofs.Oscillators.{Double, NcoFits, SoundNco, Hertz, hertz, nco-sound, nco-ok, nco-fits, fresh-nco, stepped-nco, retuned-nco}
@@ -124,5 +123,5 @@ module _ (r : ℕ) (lo : 8000 ≤ r) (hi : r ≤ 192000) where
   next-channel f payload s = go (bitEnds (f .modulator))
     where
       go : (b : Bool) → SoundModulator (channelBy b f payload .modulator) r
-      go true = next-keyed (drop (saturatingInc (f .done)) (framed payload)) (nextModulator (f .modulator)) (next-modulator (f .modulator) s)
+      go true = next-keyed (drop (oneMoreDone (f .done)) (framed payload)) (nextModulator (f .modulator)) (next-modulator (f .modulator) s)
       go false = next-modulator (f .modulator) s

@@ -21,7 +21,7 @@ use Rattle.schedule.proofs.Count.{saturating-inc-is}
 use Rattle.schedule.proofs.Lengths.{dialling-range}
 use Rattle.fsk.specs.declared.FskChannel.{FskChannel}
 use Rattle.fsk.specs.Modulator.{bitEnds}
-use Rattle.fsk.specs.Channel.{nextChannel}
+use Rattle.fsk.specs.Channel.{mostDone, nextChannel}
 use Rattle.fsk.proofs.Channel.{next-done}
 use Rattle.tones.specs.declared.Dial.{Dial}
 use Rattle.tones.specs.Mixed.{gatedOf, answerOf}
@@ -63,7 +63,7 @@ module _ (r : ℕ) (lo : 8000 ≤ r) (hi : r ≤ 192000) where
   done-few : (f : FskChannel) (payload : List ℕ) → f .done < 60 → nextChannel f payload .done ≤ 60
   done-few f payload h = rw (next-done f payload (below (f .done) h)) (go (bitEnds (f .modulator)))
     where
-      below : (k : ℕ) → k < 60 → k < 0xffff_ffff
+      below : (k : ℕ) → k < 60 → k < mostDone
       below k h = omega arith
 
       go : (b : Bool) → doneBy b (f .done) ≤ 60

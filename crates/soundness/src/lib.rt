@@ -106,7 +106,7 @@ fn ringback_ok(a: Nco, b: Nco, n: u32, ring: u8, rate: u32) -> bool
     ring_ok(ring) & tones_ok(a, b, n, stage::RING_STAGE_S, rate)
 }
 
-fn bits_ok(fsk: FskChannel, bits: u32, rate: u32) -> bool
+fn bits_ok(fsk: FskChannel, bits: u16, rate: u32) -> bool
     ensures { λ r. ⌜ r ≡ bitsOk fsk bits rate ⌝ }
 {
     let m = fsk.modulator;

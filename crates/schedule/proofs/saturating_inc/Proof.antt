@@ -1,7 +1,8 @@
--- `schedule::saturating_inc` meets its contract. Each arm returns what `countUp` picks, as the test found n. Assumes nothing.
+-- `schedule::saturating_inc` meets its contract: by whether n is the largest. Assumes nothing.
+use mathlib.Core.Path.{sym}
 use borrow.Author.Needs.{needs}
-use borrow.Author.Tests.{lt-ltb, le-ltb}
 use Rattle.schedule.specs.Time.{saturatingInc}
+use Rattle.schedule.proofs.Count.{inc-below, inc-stays}
 use Rattle.schedule.proofs.saturating_inc.Statement.{statement}
 use Rattle.schedule.proofs.saturating_inc.Tie as tie
 
@@ -10,11 +11,11 @@ add-result c = search needs
 
 returns : tie.Need-returns
 unfolding saturatingInc
-returns c = rw (lt-ltb _ _ (c .if1 .taken))
+returns c = sym (inc-below _ _ (c .if1 .taken))
 
 returns-2 : tie.Need-returns-2
 unfolding saturatingInc
-returns-2 c = rw (le-ltb _ _ (c .if1 .left))
+returns-2 c = sym (inc-stays _ _ (c .if1 .left))
 
 pub saturating-inc-spec : {M : Type 1} → statement M
 saturating-inc-spec = tie.close (tie.spec add-result returns returns-2)

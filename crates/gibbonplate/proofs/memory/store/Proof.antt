@@ -26,14 +26,15 @@ flag-requires-4 c κs = search needs
 returns : tie.Need-returns
 unfolding stored
 returns c =
-    laid _ _
+    let p = c .before .before .before .before .before .before .before .before .before .plain .ensures in
+    laid _ _ _ p
     (rw (
       c .before .flag4 .ensures,
       c .before .before .flag3 .ensures,
       c .before .before .before .number .ensures,
       c .before .before .before .before .flag2 .ensures,
       c .before .before .before .before .before .flag .ensures,
-      c .before .before .before .before .before .before .before .before .before .plain .ensures,
+      p .0,
     ))
 
 pub store-spec : {M : Type 1} → statement M

@@ -1,4 +1,6 @@
--- `plain::plain` meets its contract: case by case. Assumes nothing.
+-- `plain::plain` meets its contract: case by case; each is read back as it was, bits as what `bits_plain` ensures. Assumes nothing.
+use mathlib.Core.Path.{refl}
+use Rattle.gibbonplate.proofs.Bits.{read-back}
 use borrow.Author.Needs.{needs}
 use Rattle.gibbonplate.proofs.plain.plain.Statement.{statement}
 use Rattle.gibbonplate.proofs.plain.plain.Tie as tie
@@ -64,34 +66,34 @@ tones-plain-requires-4 : tie.Need-tones-plain-requires-4
 tones-plain-requires-4 c κs = search needs
 
 returns : tie.Need-returns
-returns c = rw (c .before .before .stage .given .1, c .no-nco .ensures)
+returns c = read-back _ _ _ (c .before .before .stage .given .1) tt (rw (c .no-nco .ensures))
 
 returns-2 : tie.Need-returns-2
-returns-2 c = rw (c .before .before .stage2 .given .1) (c .tones-plain .ensures)
+returns-2 c = read-back _ _ _ (c .before .before .stage2 .given .1) tt (c .tones-plain .ensures)
 
 returns-3 : tie.Need-returns-3
-returns-3 c = rw (c .before .stage3 .given .1)
+returns-3 c = read-back _ _ _ (c .before .stage3 .given .1) tt refl
 
 returns-4 : tie.Need-returns-4
-returns-4 c = rw (c .before .before .stage4 .given .1) (c .tones-plain2 .ensures)
+returns-4 c = read-back _ _ _ (c .before .before .stage4 .given .1) tt (c .tones-plain2 .ensures)
 
 returns-5 : tie.Need-returns-5
-returns-5 c = rw (c .before .before .stage5 .given .1) (c .bits-plain .ensures)
+returns-5 c = let p = c .bits-plain .ensures in read-back _ _ _ (c .before .before .stage5 .given .1) (p .1) (p .0)
 
 returns-6 : tie.Need-returns-6
-returns-6 c = rw (c .before .before .stage6 .given .1) (c .tones-plain3 .ensures)
+returns-6 c = read-back _ _ _ (c .before .before .stage6 .given .1) tt (c .tones-plain3 .ensures)
 
 returns-7 : tie.Need-returns-7
-returns-7 c = rw (c .before .before .stage7 .given .1) (c .bits-plain2 .ensures)
+returns-7 c = let p = c .bits-plain2 .ensures in read-back _ _ _ (c .before .before .stage7 .given .1) (p .1) (p .0)
 
 returns-8 : tie.Need-returns-8
-returns-8 c = rw (c .before .before .stage8 .given .1) (c .bits-plain3 .ensures)
+returns-8 c = let p = c .bits-plain3 .ensures in read-back _ _ _ (c .before .before .stage8 .given .1) (p .1) (p .0)
 
 returns-9 : tie.Need-returns-9
-returns-9 c = rw (c .before .before .stage9 .given .1) (c .bits-plain4 .ensures)
+returns-9 c = let p = c .bits-plain4 .ensures in read-back _ _ _ (c .before .before .stage9 .given .1) (p .1) (p .0)
 
 returns-10 : tie.Need-returns-10
-returns-10 c = rw (c .before .before .enum-told .given .1, ← c .before .no-nco2 .ensures) (c .tones-plain4 .ensures)
+returns-10 c = read-back _ _ _ (c .before .before .enum-told .given .1) tt (rw (← c .before .no-nco2 .ensures) (c .tones-plain4 .ensures))
 
 pub plain-spec : {M : Type 1} → statement M
 plain-spec =
