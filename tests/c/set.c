@@ -237,6 +237,9 @@ static void refusals(void)
         line = set;
         line.marks[8] = 1;
         CHECK(gibbonplate_feed(&line, '\r', false, outbox, 4, &answer) == (i == 0 ? 6 : 0));
+        line = set;
+        line.marks[8] = 2;
+        CHECK(gibbonplate_feed(&line, '\r', false, outbox, 4, &answer) == 6);
         CHECK(gibbonplate_feed(&set, '\r', false, outbox, 4, &answer) == 0 && answer.codes[0] == (i == 2 ? 4 : 1) && answer.codes[1] == 0);
         CHECK(gibbonplate_state(&set) == (i == 2 ? GIBBONPLATE_IDLE : GIBBONPLATE_DIALLING) && outbox[0] == 7);
         CHECK(gibbonplate_digits(&set, digits) == (size_t)(i == 2 ? 0 : length - 4));

@@ -5,3 +5,4 @@ pub mod Bytes
 pub mod Sound
 pub mod Outbox
 pub mod Lines
+pub mod Overlong

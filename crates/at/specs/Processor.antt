@@ -65,7 +65,7 @@ fresh =
 abbrev pub holdTime : ℕ
 holdTime = 700_000_000
 
--- line <= 80; pluses <= 3; down time < 700 ms
+-- a sound line; pluses <= 3; down time < 700 ms
 unfoldable pub sound : AtProcessor → Bool
 sound p = soundLine (lineOf p) && (leb (pluses p) 3 && ltb (downTime p) holdTime)
 

@@ -24,7 +24,7 @@ abbrev pub read : Bool → Command → Command → Command
 read true this next = this
 read false this next = next
 
--- 02, E1: a line that ran over is none
+-- 02, E1: a line that ran over is none of these
 unfoldable pub commandOf : Line → Command
 commandOf l =
     read (ranOver l) Unknown

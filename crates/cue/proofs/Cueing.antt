@@ -8,7 +8,7 @@ use mathlib.Core.Bool.{Bool, true, false, and-eq-true-iff}
 use lib.Dec.{lit≤, eqb}
 use lib.ListN.{length}
 use lib.Seq.{length-take-le}
-use borrow.Author.Tests.{ltb-true, le-leb}
+use borrow.Author.Tests.{ltb-true, eqb-true, le-leb}
 use Rattle.math.specs.Float.{one}
 use Rattle.schedule.specs.Time.{samplesIn}
 use Rattle.schedule.specs.Length.{clickTime, diallingSamples}
@@ -54,6 +54,10 @@ module _ (s : Set) (p : ℕ) (accepted : cueRefusalNumber (cueCause s p) ≡ 0) 
       go false able e = let no : ⊥ = omega arith in absurd no
       go true false e = let no : ⊥ = omega arith in absurd no
       go true true e = (refl, refl)
+
+  -- an accepted cue is of a call that is being dialled, and of one of its digits
+  pub in-state-1 : stateNumber (s .session .state) ≡ 1
+  in-state-1 = eqb-true _ 1 (and-eq-true-iff (eqb (stateNumber (s .session .state)) 1) _ .0 (able .1) .0)
 
   below : p < s .session .digits .len
   below = ltb-true _ _ (and-eq-true-iff (eqb (stateNumber (s .session .state)) 1) _ .0 (able .1) .1)

@@ -3,6 +3,7 @@
 use Prim.Native.Nat.{_≤_}
 use mathlib.Core.Path.{_≡_, refl, sym, ap, _∙_}
 use mathlib.Core.Bool.{Bool, true, false}
+use mathlib.Core.List.{[], _∷_}
 use lib.Dec.{leb, eqb}
 use native.Mathlib.Omega.{arith}
 use Rattle.command.specs.Line.{ranOver}
@@ -17,7 +18,7 @@ use Rattle.set.specs.Set.{freshSet}
 use Rattle.set.specs.Sound.{sound}
 use Rattle.set.proofs.Ranges.{sound-rate}
 use Rattle.gibbonplate.specs.declared.plain.PlainStage.{PlainStage}
-use Rattle.gibbonplate.specs.Memory.{Memory, plain, staged, stateAt, flag, stored, setIn, loaded}
+use Rattle.gibbonplate.specs.Memory.{Memory, plain, staged, stateAt, flag, stored, setIn, loaded, holdsSet}
 
 flag-low : (on : Bool) → leb (flag on) 1 ≡ true
 flag-low true = refl
@@ -86,6 +87,14 @@ reload s stage-back =
 -- of memory with a set stored in it, from the numbers of its stage
 pub laid : (m : Memory) (s : Set) (p : PlainStage) → (p ≡ plain (s .session .stage)) × (staged p ≡ s .session .stage) → m ≡ stored s → (m ≡ stored s) × (loaded m ≡ s)
 laid m s p (is, stage-back) e = (e, ap loaded e ∙ reload s (sym (ap staged is) ∙ stage-back))
+
+-- a flag of 2 is none: the mode, the carrier-seen mark, whether in tone, whether the line ran over
+pub flags-of-2 :
+    (holdsSet (2 ∷ 0 ∷ 0 ∷ 0 ∷ 0 ∷ 1 ∷ 0 ∷ 0 ∷ 0 ∷ []) ≡ false)
+    × (holdsSet (0 ∷ 0 ∷ 2 ∷ 0 ∷ 0 ∷ 1 ∷ 0 ∷ 0 ∷ 0 ∷ []) ≡ false)
+    × (holdsSet (0 ∷ 0 ∷ 0 ∷ 0 ∷ 0 ∷ 1 ∷ 0 ∷ 2 ∷ 0 ∷ []) ≡ false)
+    × (holdsSet (0 ∷ 0 ∷ 0 ∷ 0 ∷ 0 ∷ 1 ∷ 0 ∷ 0 ∷ 2 ∷ []) ≡ false)
+flags-of-2 = (refl, refl, refl, refl)
 
 pub no-set : sound (freshSet 0) ≡ false
 no-set = by (sound (freshSet 0)) refl

@@ -1,16 +1,17 @@
 -- Where Dialling is after n samples, counted from the overture's first; and which sample is a digit's first: the one after click, dial tone and the
 -- digits before it. It lies in the digit's tone, and a state before it is of an earlier stage or of an earlier digit. Assumes nothing.
 use mathlib.Core.Path.{_≡_, refl, sym, subst, _∙_}
-use mathlib.Core.Bool.{Bool, true, false, true≢false}
+use mathlib.Core.Bool.{Bool, true, false, true≢false, and-eq-true-iff}
 use mathlib.Core.List.{List}
 use Prim.Native.Nat.{ℕ, zero, suc, _+_, _-_, _*_, _≤_, _<_, zero-le}
 use native.Mathlib.Nat.{le-trans, le-of-eq, le-of-lt, le-of-suc-le-suc, lt-of-le-of-lt, lt-of-not-le, suc-mul, mul-le-mul-right, zero-lt-suc, add-sub-of-le}
 use native.Mathlib.Numerals.{add-one}
 use native.Mathlib.Omega.{arith}
-use lib.Dec.{ltb, lit≤}
+use lib.Dec.{ltb, eqb, lit≤}
 use lib.ListN.{length}
-use borrow.Author.Tests.{ltb-true, ltb-false, eq-eqb, ne-eqb}
+use borrow.Author.Tests.{ltb-true, ltb-false, eqb-true, eq-eqb, ne-eqb}
 use Rattle.math.specs.Float.{one}
+use Rattle.nco.specs.declared.Nco.{Nco}
 use Rattle.schedule.specs.Time.{timeAt, samplesIn}
 use Rattle.schedule.specs.Dialling.{digitAt, inTone}
 use Rattle.schedule.specs.Length.{clickTime, diallingLength, total}
@@ -26,6 +27,28 @@ use Rattle.passage.specs.Lengths.{samplesBefore, samplesOfDigits}
 use Rattle.passage.specs.Cue.{InDigitTone, FirstInTone, sounding, inDigitTone, firstInTone}
 use Rattle.passage.proofs.Dialling.{Pair, DiallingAfter, no-time, digit-first, tone-first, some-digits-last}
 use Rattle.passage.proofs.Overture.{after-entry, not-after}
+
+-- ---- a state that sounds digit p is Dialling's, at p and in tone
+pub record Sounds (p : ℕ) (s : StageState) : Type 0 where
+  pub a : Nco
+  pub b : Nco
+  pub n : ℕ
+  pub state : s ≡ Dialling p true a b n
+
+pub only-in-tone : (p : ℕ) (s : StageState) → sounding p s ≡ true → Sounds p s
+unfolding sounding
+only-in-tone p (OffHook rng n) e = absurd (true≢false (sym e))
+only-in-tone p (DialTone a b n) e = absurd (true≢false (sym e))
+only-in-tone p (Dialling i on a b n) e =
+    let both = and-eq-true-iff (eqb i p) on .0 e in
+    record { a = a; b = b; n = n; state = rw (eqb-true i p (both .0), both .1) }
+only-in-tone p (Ringback a b n ring) e = absurd (true≢false (sym e))
+only-in-tone p (Ci f) e = absurd (true≢false (sym e))
+only-in-tone p (Ansam c v n) e = absurd (true≢false (sym e))
+only-in-tone p (CmJm f) e = absurd (true≢false (sym e))
+only-in-tone p (Cj f z) e = absurd (true≢false (sym e))
+only-in-tone p (Training f) e = absurd (true≢false (sym e))
+only-in-tone p Connected e = absurd (true≢false (sym e))
 
 module _ (digits : List ℕ) (r : ℕ) (lo : 8000 ≤ r) (hi : r ≤ 192000) (few : length digits ≤ 76) where
   -- its count is n, its pair is that of t = n / r

@@ -30,7 +30,7 @@ pub record FirstInTone (digits : List ℕ) (r p m : ℕ) : Type 0 where
   pub inTone : InDigitTone digits r p m
   pub least : (k : ℕ) → InDigitTone digits r p k → m ≤ k
 
--- it as a number: whether a state's next sample is in that digit's tone
+-- it as a number. Whether a state's next sample is in that digit's tone
 unfoldable pub sounding : ℕ → StageState → Bool
 sounding p (OffHook rng n) = false
 sounding p (DialTone a b n) = false

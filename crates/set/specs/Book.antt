@@ -103,7 +103,6 @@ abbrev pub unlessDeclined : Refusal → Entry → Entry
 unlessDeclined cause entry = ifAccepted cause entry (declined cause)
 
 -- by the causes of 01's table, but that 6 cannot come
-
 unfoldable pub entryOf : Book → Call → Entry
 entryOf k (typing byte carrier room) =
     let fed = fedBy k byte carrier room in
