@@ -3,6 +3,7 @@
 use Prim.Native.Nat.{ℕ, _≤_, _<_}
 use mathlib.Core.Path.{_≡_, refl, sym, ap, subst, _∙_}
 use mathlib.Core.Bool.{Bool, true, false, _&&_, _||_, true≢false, and-eq-true-iff}
+use mathlib.Core.List.{List, [], _∷_}
 use lib.Dec.{eqb, lit≤}
 use lib.ListN.{length, getD}
 use borrow.Author.Tests.{ltb-true, eqb-true, le-leb, lt-leb, le-ltb}
@@ -94,3 +95,18 @@ too-many m h = by (sound (setIn m)) refl
         let p = plainIn (m .longs) (m .counts) (m .reals) (m .marks) in
         let parts = sound-parts (s .session .stage) (digitsHeld (s .session)) (s .rate) (ranges s e .state) in
         absurd (true≢false (sym (parts .state) ∙ stage-over p (ltb-true mostDone (p .count) more) (length (digitsHeld (s .session))) (s .rate) (p .number) number))
+
+-- so are 65,536 in each of the four stages, and 65,535 are not too many to hold
+abbrev inStage : ℕ → List ℕ
+inStage number = 0 ∷ 0 ∷ 0 ∷ 0 ∷ 0 ∷ number ∷ 0 ∷ 0 ∷ 0 ∷ []
+
+abbrev countOf : ℕ → List ℕ
+countOf done = 0 ∷ 0 ∷ done ∷ 0 ∷ []
+
+pub too-many-are :
+    (tooManyBits (countOf 65536) (inStage 5) ≡ true)
+    × (tooManyBits (countOf 65536) (inStage 7) ≡ true)
+    × (tooManyBits (countOf 65536) (inStage 8) ≡ true)
+    × (tooManyBits (countOf 65536) (inStage 9) ≡ true)
+    × (tooManyBits (countOf 65535) (inStage 9) ≡ false)
+too-many-are = (refl, refl, refl, refl, refl)
