@@ -19,11 +19,12 @@ use Rattle.set.specs.declared.Made.{Made}
 use Rattle.set.specs.declared.Refusal.{Refusal}
 use Rattle.set.specs.Refusals.{refusalNumber}
 use Rattle.set.specs.Set.{made}
+use Rattle.set.specs.String.{atFront}
 use Rattle.set.specs.Book.{Book, declined, asks, blank, overture, lengthOf, declinedWith, entered}
 use Rattle.set.specs.Event.{Event, Unchanged, StringEvent, StringUnchanged}
 use Rattle.claim.specs.Trace.{Trace, setAfter}
 use Rattle.claim.specs.Claim.{SinceDial, notCalled, notedFill, noted, AllAtMost, NeverBack, Reports, Answered, AllAnswered, bookAfter, sinceAfter, Played}
-use Rattle.claim.specs.Strings.{Step, single, string, setOf, History, lastSet, causeOf, singles, allSingles, callsOf, allCalls, StringAnswered, StepAnswered, AllStepsAnswered, Claim}
+use Rattle.claim.specs.Strings.{Step, single, string, setOf, History, lastSet, causeOf, singles, sentIn, codesIn, allSingles, callsOf, allCalls, StringAnswered, StepAnswered, AllStepsAnswered, Claim}
 use Rattle.claim.proofs.Joined.{book-joined}
 use Rattle.claim.proofs.start.Reads as start
 
@@ -115,6 +116,15 @@ module _ (rate : ℕ) (answer : Made) (d : start.Learnt tt (rate, tt) answer (ra
 
     pub bytes-answered : AllAnswered (s .rate) (lastSet s xs) string-before (singles (lastSet s xs) (string e))
     bytes-answered = string-answered .bytes
+
+    pub string-outbox : e .outboxLeft ≡ atFront (sentIn (singles (lastSet s xs) (string e))) (e .outbox)
+    string-outbox = string-answered .outbox
+
+    pub string-sent : e .answer .sent ≡ length (sentIn (singles (lastSet s xs) (string e)))
+    string-sent = string-answered .sent
+
+    pub string-codes : e .codesLeft ≡ atFront (codesIn (singles (lastSet s xs) (string e))) (e .codes)
+    string-codes = string-answered .codes
 
     module _ (declined : refusalNumber (e .answer .refusal) ≡ 0 → ⊥) where
       string-unchanged : StringUnchanged (lastSet s xs) e

@@ -3,16 +3,17 @@
 use Prim.Native.Nat.{ℕ}
 use mathlib.Core.Path.{_≡_}
 use mathlib.Core.Bool.{Bool, true}
-use mathlib.Core.List.{List, [], _∷_, map}
+use mathlib.Core.List.{List, [], _∷_, _++_, map}
 use contract.Lifetimes.{Lfts}
 use denote.Ref.{RefT, now, at-last}
-use lib.ListN.{length}
+use lib.ListN.{length, take}
+use Rattle.reply.specs.Codes.{firstOf, secondOf}
 use Rattle.set.specs.declared.Set.{Set}
 use Rattle.set.specs.declared.Refusal.{Refusal}
 use Rattle.set.specs.declared.TypedAll.{TypedAll}
 use Rattle.set.specs.Refusals.{refusalNumber, Declined, ifAccepted}
 use Rattle.set.specs.Set as set
-use Rattle.set.specs.String.{four, causeByLengths}
+use Rattle.set.specs.String.{four, causeByLengths, atFront}
 use Rattle.set.specs.Book.{Call, typing, Book, blank, lengthOf}
 use Rattle.set.specs.Event.{Event, typedEvent, StringEvent, stringEvent, StringUnchanged}
 use Rattle.set.proofs.Set.feed_all.Reads as feed-all
@@ -59,6 +60,15 @@ abbrev pub singles : Set → Step → List Event
 singles s (single e) = e ∷ []
 singles s (string e) = ifAccepted (causeOf e) (typedSingly s (e .bytes) (e .carrier)) []
 
+-- the bytes that single calls sent, in order, and their codes, two a call
+abbrev pub sentIn : List Event → List ℕ
+sentIn [] = []
+sentIn (e ∷ es) = take (e .sent) (e .left .bytes) ++ sentIn es
+
+abbrev pub codesIn : List Event → List ℕ
+codesIn [] = []
+codesIn (e ∷ es) = firstOf (e .reply) ∷ secondOf (e .reply) ∷ codesIn es
+
 abbrev pub allSingles : Set → List Step → List Event
 allSingles s xs = expand.allSingles setOf singles s xs
 
@@ -81,6 +91,10 @@ pub record StringAnswered (r : ℕ) (s : Set) (k : Book) (e : StringEvent) : Typ
   pub sound : refusalNumber (e .answer .refusal) ≡ 6 → ⊥
   pub unchanged : Declined (e .answer .refusal) → StringUnchanged s e
   pub bytes : AllAnswered r s k (singles s (string e))
+  -- bytes sent in order, count, and codes are those of the single calls; what was lent past them keeps its contents
+  pub outbox : e .outboxLeft ≡ atFront (sentIn (singles s (string e))) (e .outbox)
+  pub sent : e .answer .sent ≡ length (sentIn (singles s (string e)))
+  pub codes : e .codesLeft ≡ atFront (codesIn (singles s (string e))) (e .codes)
   pub reports : Reports (e .answer .set) (bookAfter r k (callsOf (string e)))
 
 abbrev pub StepAnswered : ℕ → Set → Book → Step → Type 0
