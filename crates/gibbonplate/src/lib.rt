@@ -9,9 +9,8 @@ ghost use Rattle.ascii.specs.Front.{put, putLength};
 ghost use Rattle.keys.specs.Keys.{digitsOf};
 ghost use Rattle.schedule.specs.Time.{minRate, maxRate};
 ghost use Rattle.schedule.specs.Length.{maxDigits};
-ghost use Rattle.schedule.specs.Bounds.{TotalBounds};
 ghost use Rattle.passage.specs.Overture.{HasLength};
-ghost use Rattle.plan.specs.Plan.{planRefusalNumber, planCause, stageSamples, totalSamples};
+ghost use Rattle.plan.specs.Plan.{planRefusalNumber, planCause, stageSamples, totalSamples, BoundsOf};
 ghost use Rattle.reply.specs.Texts.{textOf};
 ghost use Rattle.at.specs.Processor.{commandMode};
 ghost use Rattle.session.specs.Session.{stateNumber};
@@ -73,7 +72,7 @@ pub extern "C" fn gibbonplate_feed_all_in(
     longs: &mut [u64; 5],
     counts: &mut [u32; 4],
     reals: &mut [f64; 6],
-    marks: &mut [u8; 9],
+    marks: &mut [u8; MARKS],
     line: &mut [u8; 80],
     keys: &mut [u8; 76],
     bytes: &[u8],
@@ -341,7 +340,7 @@ pub extern "C" fn gibbonplate_stage_samples(digits: &[u8], rate: u32, stage: u32
 pub extern "C" fn gibbonplate_total_samples(digits: &[u8], rate: u32) -> u32
     ensures { λ T. ⌜ T ≡ totalSamples (now (digits .entry)) rate ⌝ }
     ensures { λ T. ⌜ (minRate ≤ rate → rate ≤ maxRate → length (now (digits .entry)) ≤ maxDigits → HasLength (digitsOf (now (digits .entry))) rate T) ⌝ }
-    ensures { λ _. ⌜ (minRate ≤ rate → rate ≤ maxRate → length (now (digits .entry)) ≤ maxDigits → TotalBounds rate (length (digitsOf (now (digits .entry))))) ⌝ }
+    ensures { λ T. ⌜ (minRate ≤ rate → rate ≤ maxRate → length (now (digits .entry)) ≤ maxDigits → BoundsOf rate (length (digitsOf (now (digits .entry)))) T) ⌝ }
 {
     plan::total_samples(digits, rate)
 }

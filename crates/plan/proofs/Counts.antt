@@ -12,13 +12,12 @@ use Rattle.keys.specs.Keys.{digitsOf, dialledOf}
 use Rattle.keys.proofs.Line.{digits-fewer, digits-whole}
 use Rattle.schedule.specs.Time.{minRate, maxRate}
 use Rattle.schedule.specs.Length.{maxDigits, diallingLength, diallingSamples, total}
-use Rattle.schedule.specs.Bounds.{TotalBounds}
 use Rattle.schedule.proofs.Total.{total-bounds, total-range}
 use Rattle.passage.specs.Overture.{HasLength}
 use Rattle.passage.proofs.Overture.{overture-length}
 use Rattle.plan.specs.declared.Refusal.{Refusal}
 use Rattle.plan.specs.declared.Refusal.the-variants.{Accepted, Rate, Digits}
-use Rattle.plan.specs.Plan.{planRefusalNumber, causeOfPlan, planCause, digitCount, planBy, planOf, stageSamples, totalBy, totalSamples}
+use Rattle.plan.specs.Plan.{planRefusalNumber, causeOfPlan, planCause, digitCount, planBy, planOf, stageSamples, totalBy, totalSamples, BoundsOf}
 
 -- ---- the causes
 -- accepted is within the limits, and the other way round
@@ -115,5 +114,5 @@ module _ (bytes : List ℕ) (r : ℕ) (lo : 8000 ≤ r) (hi : r ≤ 192000) (few
   pub planned-length : HasLength (digitsOf bytes) r (totalSamples bytes r)
   planned-length = rw total-is (overture-length (digitsOf bytes) r lo hi (digits-few bytes few))
 
-  pub planned-bounds : TotalBounds r (digitCount bytes)
-  planned-bounds = total-bounds r lo hi (digitCount bytes) (digits-few bytes few)
+  pub planned-bounds : BoundsOf r (digitCount bytes) (totalSamples bytes r)
+  planned-bounds = let b = total-bounds r lo hi (digitCount bytes) (digits-few bytes few) in rw total-is (record { least = b .least; most = b .most })

@@ -1,5 +1,5 @@
 -- 02, E4: for digit bytes and a rate, the samples of each of stages 1 to 9 and T.
-use Prim.Native.Nat.{ℕ}
+use Prim.Native.Nat.{ℕ, _+_, _*_, _≤_}
 use mathlib.Core.Bool.{Bool, true, false, _&&_}
 use mathlib.Core.List.{List, _∷_}
 use lib.Dec.{leb}
@@ -50,3 +50,8 @@ totalBy Digits r d = 0
 
 unfoldable pub totalSamples : List ℕ → ℕ → ℕ
 totalSamples bytes r = totalBy (planCause (length bytes) r) r (digitCount bytes)
+
+-- demand 3's bounds, of T
+pub record BoundsOf (r d T : ℕ) : Type 0 where
+  pub least : 1175 * r + 24 * d * r ≤ 120 * T + 120
+  pub most : 120 * T ≤ 1175 * r + 24 * d * r + 720

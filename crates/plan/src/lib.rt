@@ -7,11 +7,10 @@ ghost use Rattle.keys.specs.Keys.{digitsOf};
 ghost use Rattle.schedule.specs.Time.{minRate, maxRate};
 ghost use Rattle.schedule.specs.Symbols.{symbolStep, doneAfter};
 ghost use Rattle.schedule.specs.Length.{maxDigits, bitsLength};
-ghost use Rattle.schedule.specs.Bounds.{TotalBounds};
 ghost use Rattle.passage.specs.Overture.{HasLength};
 ghost use Rattle.plan.specs.declared.Refusal.the-variants.{Accepted};
 ghost use Rattle.plan.specs.Clock.{clockAfter};
-ghost use Rattle.plan.specs.Plan.{planRefusalNumber, planCause, planBy, planOf, stageSamples, totalSamples};
+ghost use Rattle.plan.specs.Plan.{planRefusalNumber, planCause, planBy, planOf, stageSamples, totalSamples, BoundsOf};
 
 // Why there is no plan, if there is none.
 pub enum Refusal {
@@ -168,7 +167,7 @@ pub fn stage_samples(digits: &[u8], rate: u32, stage: u32) -> u32
 pub fn total_samples(digits: &[u8], rate: u32) -> u32
     ensures { λ T. ⌜ T ≡ totalSamples (now (digits .entry)) rate ⌝ }
     ensures { λ T. ⌜ (minRate ≤ rate → rate ≤ maxRate → length (now (digits .entry)) ≤ maxDigits → HasLength (digitsOf (now (digits .entry))) rate T) ⌝ }
-    ensures { λ _. ⌜ (minRate ≤ rate → rate ≤ maxRate → length (now (digits .entry)) ≤ maxDigits → TotalBounds rate (length (digitsOf (now (digits .entry))))) ⌝ }
+    ensures { λ T. ⌜ (minRate ≤ rate → rate ≤ maxRate → length (now (digits .entry)) ≤ maxDigits → BoundsOf rate (length (digitsOf (now (digits .entry)))) T) ⌝ }
 {
     let plan = planned(digits, rate);
     let s = plan.samples;

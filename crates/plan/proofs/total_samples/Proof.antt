@@ -6,7 +6,7 @@ use borrow.Author.Needs.{needs}
 use Rattle.keys.specs.Keys.{digitsOf}
 use Rattle.passage.specs.Overture.{HasLength}
 use Rattle.plan.specs.declared.Plan.{Plan}
-use Rattle.plan.specs.Plan.{totalSamples}
+use Rattle.plan.specs.Plan.{digitCount, totalSamples, BoundsOf}
 use Rattle.plan.proofs.Counts.{added, added-is, total-small, planned-length, planned-bounds}
 use Rattle.plan.proofs.total_samples.Statement.{statement}
 use Rattle.plan.proofs.total_samples.Tie as tie
@@ -78,7 +78,7 @@ returns c =
       T,
       (
         λ lo hi few. subst (HasLength (digitsOf (s .args .digits .now)) (s .args .rate)) (sym T) (planned-length _ _ lo hi few),
-        λ lo hi few. planned-bounds _ _ lo hi few,
+        λ lo hi few. subst (BoundsOf (s .args .rate) (digitCount (s .args .digits .now))) (sym T) (planned-bounds _ _ lo hi few),
       ),
     )
 
