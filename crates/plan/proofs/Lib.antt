@@ -1,2 +1,3 @@
 pub mod Bits
 pub mod Counts
+pub mod Cases

@@ -15,6 +15,7 @@ use Rattle.set.specs.declared.Set.{Set}
 use Rattle.set.specs.Sound.{sound}
 use Rattle.set.specs.Refusals.{refusalNumber, accepted}
 use Rattle.set.specs.Set.{freshSet, moved, creationCause, made, typingCause, lapseCause, forcedCause, fillCause, ringCause}
+use Rattle.set.specs.String.{stringCause}
 
 -- a fresh set with a line of n ones
 abbrev pub ones : ℕ → Set
@@ -40,10 +41,12 @@ pub record Declined6 (s : Set) : Type 0 where
   pub forcing : refusalNumber (forcedCause s) ≡ 6
   pub filling : (b : ℕ) → refusalNumber (fillCause s b) ≡ 6
   pub ring : refusalNumber (ringCause s) ≡ 6
+  pub string : (n room places : ℕ) → refusalNumber (stringCause s n room places) ≡ 6
 
 unsound-declined : (s : Set) → sound s ≡ false → Declined6 s
-unfolding typingCause lapseCause forcedCause fillCause ringCause
-unsound-declined s e = record { typing = λ n. rw e; time = rw e; forcing = rw e; filling = λ b. rw e; ring = rw e }
+unfolding typingCause lapseCause forcedCause fillCause ringCause stringCause
+unsound-declined s e =
+    record { typing = λ n. rw e; time = rw e; forcing = rw e; filling = λ b. rw e; ring = rw e; string = λ n room places. rw e }
 
 pub line-81 : Declined6 (ones 81)
 line-81 = unsound-declined (ones 81) unsound-81
@@ -77,3 +80,13 @@ connected-1 = refl
 pub connected-65537 : refusalNumber (fillCause up 65537) ≡ 3
 unfolding sound soundState stateOk digitsOk allKeys rateOk processor.sound soundLine stateNumber fillCause
 connected-65537 = refl
+
+-- 02, E3: 256 bytes with just their room, and no byte with none; 8, 257 bytes, before 9; 9, a byte of outbox or a code too few
+pub string-edges : (refusalNumber (stringCause (freshSet 8000) 256 1024 512) ≡ 0)
+    × (refusalNumber (stringCause (freshSet 8000) 0 0 0) ≡ 0)
+    × (refusalNumber (stringCause (freshSet 8000) 257 1028 514) ≡ 8)
+    × (refusalNumber (stringCause (freshSet 8000) 257 0 0) ≡ 8)
+    × (refusalNumber (stringCause (freshSet 8000) 256 1023 512) ≡ 9)
+    × (refusalNumber (stringCause (freshSet 8000) 256 1024 511) ≡ 9)
+unfolding sound soundState stateOk digitsOk allKeys rateOk idle processor.sound soundLine stringCause
+string-edges = (refl, refl, refl, refl, refl, refl)
