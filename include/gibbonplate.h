@@ -249,6 +249,8 @@ size_t gibbonplate_write_reply(uint8_t code, uint8_t *out, size_t len);
  *
  * All three see the rate first and then the length: a rate outside 8,000 to 192,000 is declined with
  * 1, else more than 76 bytes, keys or not, with 10. Declined, every count is 0.
+ *
+ * The counts pass the symbol clock over a second of samples: ask before the call, not in an audio callback.
  */
 
 /* 0 where there are counts, else 1 or 10. */
