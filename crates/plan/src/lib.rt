@@ -68,7 +68,7 @@ fn symbol(from: Clock, rate: u32) -> Clock
     }
 }
 
-// The clock when so many bits are done. It may have passed fewer before.
+// The clock when so many bits are done, from where fewer were.
 fn run_to(from: Clock, bits: u16, rate: u32) -> Clock
     requires { ⌜ (minRate ≤ rate) × (rate ≤ maxRate) × (bits ≤ 300) × (from ≡ clockAfter rate (from .n)) × (from .done < bits) × ((j : ℕ) → j < from .n → doneAfter (symbolStep rate) j < bits) ⌝ }
     ensures { λ c. ⌜ (c ≡ clockAfter rate (bitsLength rate bits)) × (c .done ≡ bits) ⌝ }
@@ -129,7 +129,7 @@ fn cause(len: usize, rate: u32) -> Refusal
     Refusal::Rate
 }
 
-// The digits of the bytes, as a dial line would have them.
+// The plan of a call, with the digits that a dial line would have of the bytes.
 pub fn planned(digits: &[u8], rate: u32) -> Plan
     ensures { λ p. ⌜ p ≡ planOf (now (digits .entry)) rate ⌝ }
 {
@@ -144,6 +144,7 @@ pub fn planned(digits: &[u8], rate: u32) -> Plan
     }
 }
 
+// What the calls below decline, in the order of 02.
 pub fn plan_refusal(digits: &[u8], rate: u32) -> Refusal
     ensures { λ r. ⌜ r ≡ planCause (length (now (digits .entry))) rate ⌝ }
 {
