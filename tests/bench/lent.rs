@@ -56,7 +56,7 @@ impl Lent {
         let mut left = start.skip;
         while left > 0 {
             let part = left.min(scratch.len());
-            s.process_out(&mut scratch[..part]);
+            assert_eq!(s.process_out(&mut scratch[..part]), 0);
             left -= part;
         }
         s

@@ -289,7 +289,7 @@ impl Bench {
             let mut set = Lent::at(start);
             nanoseconds(|| {
                 for _ in 0..CALLS {
-                    black_box(set.process_out(black_box(&mut [])));
+                    assert_eq!(set.process_out(black_box(&mut [])), 0);
                 }
             })
         });
@@ -315,7 +315,7 @@ impl Bench {
                 let mut set = Lent::at(Start { rate, digits, skip: 0 });
                 filling = filling.min(nanoseconds(|| {
                     for part in out.chunks_mut(4096) {
-                        set.process_out(part);
+                        assert_eq!(set.process_out(part), 0);
                     }
                 }));
             }
