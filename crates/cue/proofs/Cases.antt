@@ -1,11 +1,8 @@
 -- 02, E2: the cues of 1234 at 8,000 samples a second. The fourth is not where whole numbers have it, 13201: there the clock still tells the third digit.
 -- The lengths of one, two and three digits are 01's cases, computed. Assumes nothing.
 use Prim.Native.Nat.{ℕ, _+_, _<_}
-use mathlib.Core.Path.{_≡_, refl, ap, _∙_}
-use mathlib.Core.Bool.{true}
-use mathlib.Core.List.{List, _∷_, []}
+use mathlib.Core.Path.{_≡_, refl}
 use lib.Dec.{lit<, lit≤}
-use lib.ListN.{length}
 use native.Mathlib.Omega.{arith}
 use Rattle.math.specs.Float.{one}
 use Rattle.ascii.specs.Ascii.{ascii}

@@ -3,8 +3,8 @@
 use mathlib.Core.Path.{_≡_, refl, sym, ap, subst, _∙_}
 use mathlib.Core.Logic.{inl, inr}
 use mathlib.Core.Bool.{Bool, true, false, not}
-use Prim.Native.Nat.{ℕ, zero, suc, _+_, _*_, _≤_, _<_}
-use native.Mathlib.Nat.{le-refl, le-trans, le-of-eq, le-of-lt, le-of-suc-le-suc, eq-or-lt-of-le, lt-of-lt-of-le, mul-le-mul, zero-lt-suc}
+use Prim.Native.Nat.{ℕ, zero, suc, _+_, _≤_, _<_}
+use native.Mathlib.Nat.{le-refl, le-trans, le-of-eq, le-of-lt, le-of-suc-le-suc, eq-or-lt-of-le, lt-of-lt-of-le, zero-lt-suc}
 use native.Mathlib.Numerals.{add-one}
 use native.Mathlib.Omega.{arith}
 use lib.Dec.{T, ltb, ltb→lt, nltb→le}
@@ -12,7 +12,7 @@ use lib.Ieee.{Float}
 use Rattle.schedule.specs.Symbols.{symbolStep, symbolEnds, nextPhase, phaseAfter, doneBy, doneAfter}
 use Rattle.schedule.specs.Length.{bitsLength}
 use Rattle.schedule.proofs.Symbols.{bits-early}
-use Rattle.schedule.proofs.First.{Reaches, reaches-once}
+use Rattle.schedule.proofs.First.{reaches-once}
 use Rattle.schedule.proofs.Lengths.{bitsAfter, bits-end, bits-before}
 use Rattle.plan.specs.declared.Clock.{Clock}
 use Rattle.plan.specs.Clock.{clockAfter}

@@ -1,7 +1,7 @@
 -- A plan's counts: which are zero, and that their sum is T, with the overture's length and its bounds. By the causes, case by case. Assumes nothing.
-use mathlib.Core.Path.{_≡_, refl, sym, ap, _∙_}
+use mathlib.Core.Path.{_≡_, refl, ap}
 use mathlib.Core.Bool.{Bool, true, false, _&&_, and-eq-true-iff}
-use mathlib.Core.List.{List, [], _∷_}
+use mathlib.Core.List.{List}
 use Prim.Native.Nat.{ℕ, zero, suc, _+_, _-_, _≤_, _<_, zero-le}
 use native.Mathlib.Nat.{le-trans, le-of-eq, zero-lt-suc}
 use native.Mathlib.Omega.{arith}

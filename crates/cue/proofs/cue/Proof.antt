@@ -1,7 +1,7 @@
 -- `cue::cue` meets its contract: by its cause. Assumes nothing.
-use mathlib.Core.Path.{_≡_, refl, sym, ap, _∙_}
+use mathlib.Core.Path.{_≡_, sym}
 use lib.ListN.{length}
-use Rattle.cue.specs.Cue.{cueRefusalNumber, cueCause, cuedBy, cued}
+use Rattle.cue.specs.Cue.{cueRefusalNumber, cueCause, cued}
 use Rattle.cue.proofs.Cueing.{in-limits, accepted-cued, declined-cued, first-of-digit, first-of-digit-is}
 use borrow.Author.Needs.{needs}
 use Rattle.cue.proofs.cue.Statement.{statement}

@@ -1,7 +1,7 @@
 -- `plan::stage_samples` meets its contract: one of the plan's nine counts by its number, and 0 outside them. Assumes nothing.
 use Prim.Native.Nat.{_-_, _≤_}
 use mathlib.Core.Path.{sym, ap, _∙_}
-use mathlib.Core.Bool.{_&&_, and-eq-true-iff}
+use mathlib.Core.Bool.{and-eq-true-iff}
 use native.Mathlib.Omega.{arith}
 use lib.Dec.{leb}
 use lib.ListN.{getD}

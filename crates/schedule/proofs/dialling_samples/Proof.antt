@@ -3,7 +3,7 @@ use mathlib.Core.Bool.{_&&_, and-eq-true-iff}
 use lib.Dec.{leb}
 use borrow.Author.Tests.{leb-true}
 use Rattle.schedule.specs.Time.{minRate, maxRate}
-use Rattle.schedule.specs.Length.{maxDigits, diallingSamples}
+use Rattle.schedule.specs.Length.{diallingSamples}
 use Rattle.schedule.proofs.dialling_samples.Statement.{statement}
 use Rattle.schedule.proofs.dialling_samples.Tie as tie
 
