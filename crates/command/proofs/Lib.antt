@@ -7,3 +7,4 @@ pub mod Overlong
 pub mod Digits
 pub mod Part
 pub mod Setting
+pub mod Forms
