@@ -18,6 +18,7 @@ use Rattle.set.specs.Before.{typedBefore, outboxBefore, lapsedBefore}
 use Rattle.set.specs.Event.{Event, typedEvent, lapsedEvent, forcedEvent, filledEvent}
 use Rattle.set.proofs.Before.{typed-as-before, outbox-as-before, lapsed-as-before, typed-keeps-s12, lapsed-keeps-s12, forced-keeps-s12, fill-keeps-s12}
 use Rattle.claim.specs.Trace.{Did, typed, lapsed, forced, filled, Trace}
+use Rattle.claim.specs.Strings.{allSingles}
 use Rattle.claim.specs.Before.{endsS12, NoS12Line, before, AsBefore, AllAsBefore, Unset}
 use Rattle.claim.proofs.Strings.{claim}
 
@@ -52,9 +53,9 @@ all s f [] t none = tt
 all s f (e ∷ es) (did, t) (first, rest) = let q = one s f e did first in (q, all (e .set) (q .s12) es t rest)
 
 -- of the set that creation hands out, by the single calls that a list comes to
+made-fresh : (rate : ℕ) → set.s12Of (set.made rate .set) ≡ freshS12
+unfolding set.made
+made-fresh rate = refl
+
 pub unset : (rate : ℕ) → Unset (set.made rate .set)
-unset rate xs h none = all (set.made rate .set) (fresh rate) _ (claim rate xs h .singly) none
-  where
-    fresh : (rate : ℕ) → set.s12Of (set.made rate .set) ≡ freshS12
-    unfolding set.made
-    fresh rate = refl
+unset rate xs h none = all (set.made rate .set) (made-fresh rate) (allSingles (set.made rate .set) xs) (claim rate xs h .singly) none

@@ -219,12 +219,12 @@ fn feed_all(set: Set, string: &[u8], carrier: bool, outbox: &mut [u8], codes: &m
     )
 }
 
-// Two places a byte.
+// Three places a byte.
 fn used(accepted: bool, string: &[u8]) -> usize
-    ensures { λ r. ⌜ r ≡ either accepted (2 * length (now (string .entry))) 0 ⌝ }
+    ensures { λ r. ⌜ r ≡ either accepted (3 * length (now (string .entry))) 0 ⌝ }
 {
     if accepted {
-        return 2 * string.len();
+        return 3 * string.len();
     }
     0
 }
