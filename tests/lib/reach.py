@@ -77,9 +77,10 @@ def count(script, answers, extended=False, spread=None):
 class Before:
     """What a call found."""
 
+    guard = paper.Set.guard
+
     def __init__(self, s, kept=b""):
         self.__dict__.update(vars(s))
-        self.guard = s.guard
         self.set, self.kept = copy.copy(s), kept
         self.next_stage = 0
         self.ends = ()

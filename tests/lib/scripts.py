@@ -447,7 +447,7 @@ class Script:
 
     def edge(self):
         """The guard time, a nanosecond before it or after it."""
-        return max(0, self.set.guard() + self.random.choice((-1, 0, 0, 0, 1)))
+        return max(0, self.set.guard() + self.random.choice((-1, 0, 0, 1)))
 
     def scene_s12(self):
         """02's E6: S12 set, asked for and reset, wrong forms, and escapes at the edges of its guard time; then mostly a fresh set."""
@@ -466,11 +466,11 @@ class Script:
             carrier = self.set.seen
             if self.set.pluses:
                 self.put(b"T,120,0")
-            self.lapse_in_pieces(self.edge(), carrier)
-            for _ in range(self.random.choice((1, 2, 3, 3, 3, 4))):
+            self.lapse_in_pieces(self.edge() if self.chance(0.4) else self.set.guard(), carrier)
+            for _ in range(self.random.choice((1, 2, 3, 3, 3, 3, 4))):
                 self.put(b"T,43,0")
-                if self.chance(0.4):
-                    self.lapse_in_pieces(self.random.choice((self.edge(), 0)), carrier)
+                if self.chance(0.5):
+                    self.lapse_in_pieces(self.random.choice((self.edge(), self.edge(), 0)), carrier)
             self.lapse_in_pieces(self.edge(), carrier)
             if self.set.command_mode and self.chance(0.5):
                 self.enter(self.random.choice((b"ATS12?", b"ATZ", b"ATH0", b"ATO")), self.chance(0.5))
