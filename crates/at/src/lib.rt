@@ -277,8 +277,10 @@ impl AtProcessor {
                 .go_online()
                 .gives(Reply::One(Code::Ok), Control::Dial),
             Command::AskS12 => self.gives(Reply::Two(Code::S12, Code::Ok), Control::Nothing),
-            Command::SetS12(n) => AtProcessor { s12: n, ..self }
-                .gives(Reply::One(Code::Ok), Control::Nothing),
+            Command::SetS12(n) => AtProcessor { s12: n, ..self }.gives(
+                Reply::One(Code::Ok),
+                Control::Nothing,
+            ),
             Command::Unknown => self.gives(Reply::One(Code::Error), Control::Nothing),
         }
     }

@@ -132,7 +132,11 @@ impl Line {
     pub fn command(self) -> Command
         ensures { λ r. ⌜ r ≡ commandOf self ⌝ }
     {
-        let rest = read(self.starts_with(b"ATS12="), self.setting(), Command::Unknown);
+        let rest = read(
+            self.starts_with(b"ATS12="),
+            self.setting(),
+            Command::Unknown,
+        );
         let rest = read(self.equals(b"ATS12?"), Command::AskS12, rest);
         let rest = read(self.starts_with(b"ATDT"), Command::Atdt, rest);
         let rest = read(self.equals(b"ATO0"), Command::Ato, rest);
