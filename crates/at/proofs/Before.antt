@@ -3,8 +3,7 @@
 use Prim.Native.Nat.{ℕ}
 use Prim.Native.Char.{code}
 use native.Mathlib.Omega.{arith}
-use mathlib.Core.Path.{_≡_, refl, sym, ap, _∙_}
-use mathlib.Core.List.{List, []}
+use mathlib.Core.Path.{_≡_, refl, ap, _∙_}
 use mathlib.Core.Bool.{Bool, true, false, _&&_}
 use mathlib.Core.Logic.{_⊎_, inl, inr}
 use lib.Dec.{leb, ltb, eqb}
@@ -13,17 +12,16 @@ use Rattle.ascii.specs.Ascii.{ascii}
 use Rattle.command.specs.declared.Line.{Line}
 use Rattle.command.specs.declared.Command.{Command}
 use Rattle.command.specs.declared.Command.the-variants.{At, Atz, Ati, Ata, Ath, Ato, Atdt, AskS12, SetS12, Unknown}
-use Rattle.command.specs.Line.{emptyLine, typed, ranOver, pushed, uppercased}
-use Rattle.command.specs.Command.{begins, is, read, lines01, linesS12, valueFrom, isSetting, settingOf, commandOf}
+use Rattle.command.specs.Line.{emptyLine, typed, ranOver, uppercased}
+use Rattle.command.specs.Command.{begins, is, read, valueFrom, isSetting, settingOf, commandOf}
 use Rattle.at.specs.declared.AtProcessor.{AtProcessor}
 use Rattle.at.specs.declared.Fed.{Fed}
 use Rattle.at.specs.Processor.{commandMode, lineOf, pluses, seen, downTime, holdTime, freshS12, withLine, withEscape, added}
 use Rattle.at.specs.Command.{executed}
-use Rattle.at.specs.Escape.{guardTime, withheld, released, releasedIf, dataByte, dataByteIf, escaped, escapedIf, waited, waitedIf}
+use Rattle.at.specs.Escape.{guardTime, withheld, released, dataByte, dataByteIf, escaped, escapedIf, waited, waitedIf}
 use Rattle.at.specs.Carrier.{downFor, downIf, polled, polledIf}
 use Rattle.at.specs.At.{ended, endedIf, commandByte, commandByteIf, typedByte, typedByteIf, sent, sentIf, lapse, forcedData}
-use Rattle.at.specs.Before.{commandBefore, withheldBefore, dataByteBefore, releasedBefore, escapedBefore, waitedBeforeIf, endedBeforeIf, commandByteBeforeIf, typedByteBefore, typedByteBeforeIf, sentBefore, sentBeforeIf, lapseBefore, ofS12, endsS12Line}
-use Rattle.at.proofs.Bytes.{Typed, dropped, ends, grows, waits, sends, declined, typed-byte}
+use Rattle.at.specs.Before.{commandBefore, withheldBefore, escapedBefore, waitedBeforeIf, endedBeforeIf, commandByteBeforeIf, typedByteBefore, typedByteBeforeIf, sentBefore, sentBeforeIf, lapseBefore, ofS12, endsS12Line}
 
 clash : {A : Type 0} → _≡_ {A = Bool} true false → A
 clash e = let none : _≡_ {A = ℕ} 0 1 = cc in absurd (omega arith)

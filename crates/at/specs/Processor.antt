@@ -1,5 +1,5 @@
 -- 01, "The AT processor" and "When a call is declined": the processor in 01's words, fresh, sound, and changed in one respect. 02, E6: it gains S12.
-use Prim.Native.Nat.{ℕ, _+_, _-_, _*_, _^_, min}
+use Prim.Native.Nat.{ℕ, _+_, _-_, _^_, min}
 use mathlib.Core.Bool.{Bool, true, false, _&&_}
 use lib.Dec.{leb, ltb}
 use Rattle.command.specs.declared.Line.{Line}

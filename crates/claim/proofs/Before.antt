@@ -1,11 +1,10 @@
 -- 02, E6: on a list that holds no S12 line every call is answered as before S12. Call by call, as S12 stays 50. Assumes nothing.
 use Prim.Native.Nat.{ℕ}
-use mathlib.Core.Path.{_≡_, refl, sym, ap, _∙_}
-use mathlib.Core.Bool.{Bool, true, false}
+use mathlib.Core.Path.{_≡_, refl, ap, _∙_}
+use mathlib.Core.Bool.{false}
 use mathlib.Core.List.{List, [], _∷_}
 use mathlib.Core.Logic.{_⊎_, ⊎-elim}
 use denote.Ref.{now}
-use lib.Ieee.{Float}
 use lib.ListN.{length}
 use Rattle.at.specs.Processor.{freshS12}
 use Rattle.set.specs.declared.Set.{Set}
@@ -14,8 +13,8 @@ use Rattle.set.specs.declared.Lapsed.{Lapsed}
 use Rattle.set.specs.declared.Forced.{Forced}
 use Rattle.set.specs.declared.Filled.{Filled}
 use Rattle.set.specs.Set as set
-use Rattle.set.specs.Before.{typedBefore, outboxBefore, lapsedBefore}
-use Rattle.set.specs.Event.{Event, typedEvent, lapsedEvent, forcedEvent, filledEvent}
+use Rattle.set.specs.Before.{typedBefore}
+use Rattle.set.specs.Event.{Event, lapsedEvent, forcedEvent}
 use Rattle.set.proofs.Before.{typed-as-before, outbox-as-before, lapsed-as-before, typed-keeps-s12, lapsed-keeps-s12, forced-keeps-s12, fill-keeps-s12}
 use Rattle.claim.specs.Trace.{Did, typed, lapsed, forced, filled, Trace}
 use Rattle.claim.specs.Strings.{allSingles}

@@ -1,6 +1,5 @@
 -- 02, E6: "The Rust is compared on lists that hold no S12 line". On such a list every call is answered as before S12, strings by their single bytes, and
 -- S12 is 50 after each of them.
-use Prim.Native.Nat.{ℕ}
 use mathlib.Core.Path.{_≡_}
 use mathlib.Core.Bool.{Bool, false}
 use mathlib.Core.List.{List, [], _∷_}

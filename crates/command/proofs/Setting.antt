@@ -2,7 +2,7 @@
 -- Assumes nothing.
 use Prim.Native.Nat.{ℕ, _-_, _≤_, _<_, min}
 use native.Mathlib.Omega.{arith}
-use mathlib.Core.Path.{_≡_, refl, sym, _∙_}
+use mathlib.Core.Path.{_≡_, refl, _∙_}
 use mathlib.Core.List.{List}
 use mathlib.Core.Bool.{Bool, true, false, _&&_, _||_, cond, and-false, and-eq-true-iff}
 use lib.Dec.{leb, ltb}

@@ -1,20 +1,17 @@
 -- 02, E6: on a set whose S12 is 50 a byte that ends no S12 line, and a lapse, are answered as before S12; and only an S12 line makes it another. By the
 -- processor's laws. Assumes nothing.
 use Prim.Native.Nat.{ℕ}
-use mathlib.Core.Path.{_≡_, refl, sym, ap, _∙_}
-use mathlib.Core.List.{List, []}
+use mathlib.Core.Path.{_≡_, refl}
+use mathlib.Core.List.{List}
 use mathlib.Core.Bool.{Bool, true, false}
-use mathlib.Core.Logic.{_⊎_, inl, inr}
-use lib.ListN.{length}
-use Rattle.at.specs.declared.AtProcessor.{AtProcessor}
+use mathlib.Core.Logic.{_⊎_, inl}
 use Rattle.at.specs.Processor.{freshS12}
 use Rattle.at.specs.Before.{endsS12Line}
 use Rattle.at.proofs.Before as processor
-use Rattle.session.specs.declared.Session.{Session}
 use Rattle.control.specs.Control.{heard}
 use Rattle.set.specs.declared.Set.{Set}
 use Rattle.set.specs.Refusals.{accepted, either}
-use Rattle.set.specs.Set.{s12Of, moved, typingCause, typed, byteTaken, outbox, lapseCause, timeTaken, lapsed, forcedCause, forced, fillCause, fill}
+use Rattle.set.specs.Set.{s12Of, typingCause, typed, byteTaken, outbox, lapseCause, timeTaken, lapsed, forcedCause, forced, fillCause, fill}
 use Rattle.set.specs.Before.{typedBefore, outboxBefore, lapsedBefore}
 
 module _ (s : Set) (e : s12Of s ≡ freshS12) where

@@ -2,7 +2,6 @@
 use Prim.Native.Nat.{_-_}
 use lib.ListN.{length, getD}
 use native.Mathlib.Omega.{arith}
-use borrow.Author.Needs.{needs}
 use Rattle.command.proofs.Digits.{Read, is-digit, at-first, stopped, passed, again, ended}
 use Rattle.command.proofs.decimal.Statement.{statement}
 use Rattle.command.proofs.decimal.Tie as tie
