@@ -41,7 +41,7 @@
 extern "C" {
 #endif
 
-#define GIBBONPLATE_MARKS 9
+#define GIBBONPLATE_MARKS 10
 
 /* A set. Its contents are the library's business. */
 typedef struct gibbonplate_set {
@@ -63,7 +63,7 @@ enum gibbonplate_refusal {
     GIBBONPLATE_UNSOUND = 6,       /* the memory holds no set that calls can reach */
     GIBBONPLATE_BAD_POSITION = 7,  /* a cue: nothing is being dialled, or it has no such digit */
     GIBBONPLATE_LONG_STRING = 8,   /* a string of over 256 bytes */
-    GIBBONPLATE_STRING_ROOM = 9,   /* a string: an outbox under 4 bytes a byte, or a code buffer under 2 */
+    GIBBONPLATE_STRING_ROOM = 9,   /* a string: an outbox under 4 bytes a byte, or a code buffer under 3 */
     GIBBONPLATE_LONG_NUMBER = 10   /* a plan: over 76 bytes, keys or not */
 };
 
@@ -116,6 +116,7 @@ uint8_t gibbonplate_mode_in(GIBBONPLATE_CONST_ARRAYS);
 uint8_t gibbonplate_state_in(GIBBONPLATE_CONST_ARRAYS);
 uint8_t gibbonplate_stage_in(GIBBONPLATE_CONST_ARRAYS);
 uint32_t gibbonplate_m_in(GIBBONPLATE_CONST_ARRAYS);
+uint8_t gibbonplate_s12_in(GIBBONPLATE_CONST_ARRAYS);
 uint32_t gibbonplate_rate_in(GIBBONPLATE_CONST_ARRAYS);
 size_t gibbonplate_digits_in(GIBBONPLATE_CONST_ARRAYS, uint8_t digits[76]);
 
@@ -142,10 +143,11 @@ static inline uint8_t gibbonplate_feed(gibbonplate_set *set, uint8_t byte, bool 
 
 /*
  * A string of up to 256 bytes is typed, all with one carrier flag: as gibbonplate_feed for each of them, in one
- * call. What they send is put at the front of the outbox, in order, and sent gets how many bytes that is; the
- * codes of byte i, from 0, are put at codes[2 * i] and codes[2 * i + 1], 0 for none; what is behind them stays.
- * The outbox has to have 4 bytes for each byte of the string, and codes 2. Declines with 6, 8 and 9, in this
- * order; nothing is typed then, and sent is 0. A string of no bytes needs no room.
+ * call. What they send is put at the front of the outbox, in order, and sent gets how many bytes that is. Byte i,
+ * from 0, has three places of codes, from 3 * i: its two codes, 0 for none, and the set's S12 after it, which is
+ * what a code 6 among them stands for. What is behind them stays. The outbox has to have 4 bytes for each byte of
+ * the string, and codes 3. Declines with 6, 8 and 9, in this order; nothing is typed then, and sent is 0. A string
+ * of no bytes needs no room.
  */
 static inline uint8_t gibbonplate_feed_all(gibbonplate_set *set, const uint8_t *bytes, size_t count, bool carrier, uint8_t *outbox,
                                            size_t len, uint8_t *codes, size_t places, size_t *sent)
@@ -195,7 +197,7 @@ static inline uint8_t gibbonplate_cue(const gibbonplate_set *set, uint32_t posit
     return gibbonplate_cue_in(GIBBONPLATE_OF(set), position, sample);
 }
 
-/* The plain readers decline nothing. Of memory that holds no set they read 'C', and 0. */
+/* The plain readers decline nothing. Of memory that holds no set they read 'C', an S12 of 50, and 0. */
 
 /* 'C': what is typed is a command. 'D': what is typed is sent. */
 static inline uint8_t gibbonplate_mode(const gibbonplate_set *set)
@@ -221,6 +223,12 @@ static inline uint32_t gibbonplate_m(const gibbonplate_set *set)
     return gibbonplate_m_in(GIBBONPLATE_OF(set));
 }
 
+/* S12, 0 to 255: the guard time of an escape in units of 20 ms, 50 in a fresh set. The line ATS12=n sets it. */
+static inline uint8_t gibbonplate_s12(const gibbonplate_set *set)
+{
+    return gibbonplate_s12_in(GIBBONPLATE_OF(set));
+}
+
 /* Samples a second, as the set was made. */
 static inline uint32_t gibbonplate_rate(const gibbonplate_set *set)
 {
@@ -235,10 +243,11 @@ static inline size_t gibbonplate_digits(const gibbonplate_set *set, uint8_t digi
 
 /*
  * Writes the text of a code to the front of out, and answers its length: 1 OK, 2 CONNECT 300,
- * 3 NO CARRIER, 4 ERROR, 5 modem-core Bell 103 v1.0.0. No 0 byte and no line end is added. Another
- * code, or an out that is too short, gives 0 and leaves out as it was.
+ * 3 NO CARRIER, 4 ERROR, 5 modem-core Bell 103 v1.0.0, 6 the S12 that it is handed, in three digits: hand
+ * it gibbonplate_s12 of the set that gave the code. No 0 byte and no line end is added. Another code, or
+ * an out that is too short, gives 0 and leaves out as it was.
  */
-size_t gibbonplate_write_reply(uint8_t code, uint8_t *out, size_t len);
+size_t gibbonplate_write_reply(uint8_t code, uint8_t s12, uint8_t *out, size_t len);
 
 /*
  * The length of a call before the call: for digit bytes and a rate, the samples of each of its stages

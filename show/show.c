@@ -180,7 +180,7 @@ static void heard(desk *d, panel *p, const show_event *e, uint64_t lit)
 
     for (i = 0; i < 2 && e->answer.codes[i]; i++) {
         uint8_t reply[GIBBONPLATE_MAX_REPLY];
-        size_t n = gibbonplate_write_reply(e->answer.codes[i], reply, sizeof reply);
+        size_t n = gibbonplate_write_reply(e->answer.codes[i], gibbonplate_s12(&e->set), reply, sizeof reply);
 
         at += (size_t)snprintf(said + at, sizeof said - at, "%s%.*s", i ? ", " : "", (int)n, (const char *)reply);
     }

@@ -7,7 +7,7 @@ pub struct Lent {
     longs: [u64; 5],
     counts: [u32; 4],
     reals: [f64; 6],
-    marks: [u8; 9],
+    marks: [u8; 10],
     line: [u8; 80],
     keys: [u8; 76],
 }
@@ -15,7 +15,7 @@ pub struct Lent {
 type Longs = [u64; 5];
 type Counts = [u32; 4];
 type Reals = [f64; 6];
-type Marks = [u8; 9];
+type Marks = [u8; 10];
 type Line = [u8; 80];
 type Keys = [u8; 76];
 
@@ -45,7 +45,7 @@ pub fn total_samples(digits: &[u8], rate: u32) -> u32 {
 impl Lent {
     /// The set where a call begins.
     pub fn at(start: Start) -> Lent {
-        let mut s = Lent { longs: [0; 5], counts: [0; 4], reals: [0.0; 6], marks: [0; 9], line: [0; 80], keys: [0; 76] };
+        let mut s = Lent { longs: [0; 5], counts: [0; 4], reals: [0.0; 6], marks: [0; 10], line: [0; 80], keys: [0; 76] };
         unsafe {
             gibbonplate_new_in(&mut s.longs, &mut s.counts, &mut s.reals, &mut s.marks, &mut s.line, &mut s.keys, start.rate);
         }
@@ -74,7 +74,7 @@ impl Lent {
     }
 
     pub fn feed_all(&mut self, bytes: &[u8], carrier: bool) -> usize {
-        let (mut outbox, mut codes, mut sent) = ([0; 44], [0; 22], 0);
+        let (mut outbox, mut codes, mut sent) = ([0; 44], [0; 33], 0);
         unsafe {
             gibbonplate_feed_all_in(
                 &mut self.longs, &mut self.counts, &mut self.reals, &mut self.marks, &mut self.line, &mut self.keys,

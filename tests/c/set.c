@@ -146,13 +146,13 @@ static void declined_with_6(gibbonplate_set set)
 {
     gibbonplate_set was = set;
     gibbonplate_answer answer;
-    uint8_t outbox[4] = {7}, codes[2] = {7, 7}, ring;
+    uint8_t outbox[4] = {7}, codes[3] = {7, 7, 7}, ring;
     size_t sent = 7;
     float sample = 3;
     uint64_t cued;
 
     CHECK(gibbonplate_feed(&set, 'A', false, outbox, 4, &answer) == 6 && outbox[0] == 7);
-    CHECK(gibbonplate_feed_all(&set, (const uint8_t *)"A", 1, false, outbox, 4, codes, 2, &sent) == 6 && sent == 0 && outbox[0] == 7 && codes[0] == 7);
+    CHECK(gibbonplate_feed_all(&set, (const uint8_t *)"A", 1, false, outbox, 4, codes, 3, &sent) == 6 && sent == 0 && outbox[0] == 7 && codes[0] == 7);
     CHECK(gibbonplate_feed_all(&set, NULL, 0, false, NULL, 0, NULL, 0, &sent) == 6);
     CHECK(gibbonplate_advance_time(&set, 1, false, &answer) == 6);
     CHECK(gibbonplate_force_data_mode(&set) == 6);
@@ -198,16 +198,85 @@ static void bits(void)
     }
 }
 
+/* The writer's text for a code; that of 6, for which NULL stands, is S12 in three digits. */
+static void writes(uint8_t code, uint8_t s12, const char *reply)
+{
+    char three[4] = {(char)('0' + s12 / 100), (char)('0' + s12 / 10 % 10), (char)('0' + s12 % 10), 0};
+    uint8_t text[40];
+    size_t len = strlen(reply ? reply : three);
+
+    memset(text, 7, sizeof text);
+    CHECK(gibbonplate_write_reply(code, s12, text, sizeof text) == len);
+    CHECK(memcmp(text, reply ? reply : three, len) == 0 && text[len] == 7);
+    memset(text, 7, sizeof text);
+    CHECK(len == 0 || (gibbonplate_write_reply(code, s12, text, len - 1) == 0 && text[0] == 7));
+    CHECK(len == 0 || gibbonplate_write_reply(code, s12, text, len) == len);
+    CHECK(gibbonplate_write_reply(code, s12, NULL, 0) == 0);
+}
+
+/* ATS12=n sets S12, every other number and form leaves it; then an escape at its three edges, for every S12. */
+static void guards(void)
+{
+    static const char *const wrong[] = {"", "256", "999", "0050", "1000", "5X", " 5", "-1", "+5"};
+    gibbonplate_set set, one;
+    gibbonplate_answer answer;
+    uint8_t outbox[4];
+    int s12;
+    size_t i;
+
+    gibbonplate_new(&set, 8000);
+    for (s12 = 255; s12 >= 0; s12--) {
+        uint64_t guard = 20000000 * (uint64_t)s12;
+        char line[16];
+
+        snprintf(line, sizeof line, s12 % 2 ? "ATS12=%d\r" : "ats12=%03d\r", s12);
+        type(&set, line);
+        CHECK(gibbonplate_s12(&set) == s12);
+        for (i = 0; i < sizeof wrong / sizeof *wrong; i++) {
+            snprintf(line, sizeof line, "ATS12=%s", wrong[i]);
+            type(&set, line);
+            CHECK(gibbonplate_feed(&set, '\r', false, outbox, 4, &answer) == 0 && answer.codes[0] == 4 && gibbonplate_s12(&set) == s12);
+        }
+        type(&set, "ATS12?");
+        CHECK(gibbonplate_feed(&set, '\r', false, outbox, 4, &answer) == 0 && answer.codes[0] == 6 && answer.codes[1] == 1);
+        CHECK(gibbonplate_force_data_mode(&set) == 0);
+        for (i = 0; i < 2 && guard > 0; i++) {
+            one = set;
+            CHECK(gibbonplate_advance_time(&one, guard - 1 + i, false, &answer) == 0);
+            CHECK(gibbonplate_feed(&one, '+', false, outbox, 4, &answer) == 0 && answer.sent == 1 - i);
+        }
+        CHECK(gibbonplate_advance_time(&set, guard, false, &answer) == 0);
+        CHECK(gibbonplate_feed(&set, '+', false, outbox, 4, &answer) == 0 && answer.sent == 0);
+        for (i = 0; i < 2; i++) {
+            one = set;
+            CHECK(gibbonplate_advance_time(&one, guard + i, false, &answer) == 0);
+            CHECK(gibbonplate_feed(&one, '+', false, outbox, 4, &answer) == 0 && answer.sent == 2 * i);
+        }
+        type(&set, "++");
+        for (i = 0; i < 2 && guard > 0; i++) {
+            one = set;
+            CHECK(gibbonplate_advance_time(&one, guard - 1 + i, false, &answer) == 0 && gibbonplate_mode(&one) == (i ? 'C' : 'D'));
+        }
+        CHECK(gibbonplate_advance_time(&set, guard, false, &answer) == 0 && gibbonplate_mode(&set) == 'C');
+        type(&set, "ATH\r");
+        CHECK(gibbonplate_s12(&set) == s12);
+        one = set;
+        type(&one, "ATZ\r");
+        CHECK(gibbonplate_s12(&one) == 50);
+    }
+    printf("S12: every setting, its wrong forms and the edges of its escape\n");
+}
+
 static void refusals(void)
 {
     gibbonplate_set set, was;
     gibbonplate_answer answer;
-    uint8_t outbox[8], text[40], digits[GIBBONPLATE_MAX_DIGITS], ring, string[GIBBONPLATE_MAX_STRING + 1], sends[1028], codes[514];
+    uint8_t outbox[8], digits[GIBBONPLATE_MAX_DIGITS], ring, string[GIBBONPLATE_MAX_STRING + 1], sends[1028], codes[771];
     size_t sent;
     float *samples = calloc(GIBBONPLATE_MAX_FILL + 1, sizeof(float));
     uint64_t sample;
     int i;
-    static const char *const replies[] = {"", "OK", "CONNECT 300", "NO CARRIER", "ERROR", "modem-core Bell 103 v1.0.0", ""};
+    static const char *const replies[] = {"", "OK", "CONNECT 300", "NO CARRIER", "ERROR", "modem-core Bell 103 v1.0.0"};
 
     /* 1 */
     CHECK(gibbonplate_new(&set, 7999) == 1 && gibbonplate_rate(&set) == 8000);
@@ -215,7 +284,7 @@ static void refusals(void)
     CHECK(gibbonplate_new(&set, 192000) == 0 && gibbonplate_rate(&set) == 192000);
     CHECK(gibbonplate_new(&set, 8000) == 0 && gibbonplate_rate(&set) == 8000);
     CHECK(gibbonplate_mode(&set) == 'C' && gibbonplate_state(&set) == 0 && gibbonplate_stage(&set) == 0);
-    CHECK(gibbonplate_m(&set) == 0 && gibbonplate_digits(&set, digits) == 0);
+    CHECK(gibbonplate_m(&set) == 0 && gibbonplate_digits(&set, digits) == 0 && gibbonplate_s12(&set) == 50);
 
     /* 2 */
     was = set;
@@ -254,16 +323,16 @@ static void refusals(void)
     sent = 9;
     CHECK(gibbonplate_feed_all(&set, string, 257, false, sends, sizeof sends, codes, sizeof codes, &sent) == 8 && sent == 0);
     CHECK(gibbonplate_feed_all(&set, string, 257, false, sends, 0, codes, 0, &sent) == 8);
-    CHECK(gibbonplate_feed_all(&set, string, 256, false, sends, 1023, codes, 512, &sent) == 9 && sent == 0);
-    CHECK(gibbonplate_feed_all(&set, string, 256, false, sends, 1024, codes, 511, &sent) == 9);
-    CHECK(gibbonplate_feed_all(&set, string, 1, false, sends, 3, codes, 1, &sent) == 9);
+    CHECK(gibbonplate_feed_all(&set, string, 256, false, sends, 1023, codes, 768, &sent) == 9 && sent == 0);
+    CHECK(gibbonplate_feed_all(&set, string, 256, false, sends, 1024, codes, 767, &sent) == 9);
+    CHECK(gibbonplate_feed_all(&set, string, 1, false, sends, 3, codes, 2, &sent) == 9);
     CHECK(gibbonplate_feed_all(&set, NULL, 0, false, NULL, 0, NULL, 0, &sent) == 0 && sent == 0);
-    CHECK(memcmp(&set, &was, sizeof set) == 0 && sends[0] == 7 && sends[1027] == 7 && codes[0] == 7 && codes[513] == 7);
-    CHECK(gibbonplate_feed_all(&set, string, 256, false, sends, 1024, codes, 512, &sent) == 0 && sent == 0);
-    CHECK(codes[0] == 0 && codes[511] == 0 && codes[512] == 7 && sends[0] == 7);
+    CHECK(memcmp(&set, &was, sizeof set) == 0 && sends[0] == 7 && sends[1027] == 7 && codes[0] == 7 && codes[770] == 7);
+    CHECK(gibbonplate_feed_all(&set, string, 256, false, sends, 1024, codes, 768, &sent) == 0 && sent == 0);
+    CHECK(codes[0] == 0 && codes[766] == 0 && codes[767] == 50 && codes[768] == 7 && sends[0] == 7);
     memset(codes, 7, sizeof codes);
-    CHECK(gibbonplate_feed_all(&set, (const uint8_t *)"\rATI\rATX\r", 9, false, sends, 36, codes, 20, &sent) == 0 && sent == 0);
-    CHECK(memcmp(codes, "\4\0\0\0\0\0\0\0\5\1\0\0\0\0\0\0\4\0\7\7", 20) == 0);
+    CHECK(gibbonplate_feed_all(&set, (const uint8_t *)"\rATI\rATX\r", 9, false, sends, 36, codes, 29, &sent) == 0 && sent == 0);
+    CHECK(memcmp(codes, "\4\0002\0\0002\0\0002\0\0002\5\0012\0\0002\0\0002\0\0002\4\0002\7\7", 29) == 0);
 
     /* 7, and a cue */
     CHECK(gibbonplate_cue(&set, 0, &sample) == 7 && sample == 0);
@@ -303,7 +372,7 @@ static void refusals(void)
     CHECK(gibbonplate_state(&set) == 0 && gibbonplate_mode(&set) == 'C');
     CHECK(gibbonplate_force_data_mode(&set) == 0 && gibbonplate_mode(&set) == 'D');
     memset(sends, 7, sizeof sends);
-    CHECK(gibbonplate_feed_all(&set, (const uint8_t *)"a+\r", 3, false, sends, 12, codes, 6, &sent) == 0 && sent == 3);
+    CHECK(gibbonplate_feed_all(&set, (const uint8_t *)"a+\r", 3, false, sends, 12, codes, 9, &sent) == 0 && sent == 3);
     CHECK(memcmp(sends, "a+\r\7", 4) == 0);
 
     /* 6 */
@@ -312,23 +381,17 @@ static void refusals(void)
     declined_with_6(set);
     bits();
     memset(&set, 0xFF, sizeof set);
-    CHECK(gibbonplate_process_out(&set, samples, 1) == 6 && gibbonplate_rate(&set) == 0 && gibbonplate_mode(&set) == 'C');
+    CHECK(gibbonplate_process_out(&set, samples, 1) == 6 && gibbonplate_rate(&set) == 0 && gibbonplate_mode(&set) == 'C' && gibbonplate_s12(&set) == 50);
     memset(&set, 0, sizeof set);
     CHECK(gibbonplate_process_out(&set, samples, 1) == 6 && gibbonplate_rate(&set) == 0);
 
     /* replies */
     for (i = 0; i < 256; i++) {
-        const char *reply = replies[i < 6 ? i : 6];
-        size_t len = strlen(reply);
-
-        memset(text, 7, sizeof text);
-        CHECK(gibbonplate_write_reply((uint8_t)i, text, sizeof text) == len);
-        CHECK(memcmp(text, reply, len) == 0 && text[len] == 7);
-        memset(text, 7, sizeof text);
-        CHECK(len == 0 || (gibbonplate_write_reply((uint8_t)i, text, len - 1) == 0 && text[0] == 7));
-        CHECK(len == 0 || gibbonplate_write_reply((uint8_t)i, text, len) == len);
-        CHECK(gibbonplate_write_reply((uint8_t)i, NULL, 0) == 0);
+        const char *reply = i < 6 ? replies[i] : "";
+        writes((uint8_t)i, (uint8_t)random64(), i == 6 ? NULL : reply);
     }
+    for (i = 0; i < 256; i++)
+        writes(6, (uint8_t)i, NULL);
     free(samples);
     printf("every refusal, every reader and every reply\n");
 }
@@ -338,8 +401,8 @@ static void refusals(void)
 /* A set that strings, lapses and fills lead on, and one with the same bytes typed singly. */
 static void strings(size_t times)
 {
-    static const char *const lines[] = {"AT\r", "ATDT5551234\r", "ATA\r", "ATH\rATDT12\r", "ATI\r", "+++", "ATO\r", "atx\r", "\n"};
-    room typed = walled(GIBBONPLATE_MAX_STRING), sends = walled(4 * GIBBONPLATE_MAX_STRING + 9), coded = walled(2 * GIBBONPLATE_MAX_STRING + 9);
+    static const char *const lines[] = {"AT\r", "ATDT5551234\r", "ATA\r", "ATH\rATDT12\r", "ATI\r", "+++", "ATO\r", "atx\r", "\n", "ATS12=7\r", "ats12?\r", "ATZ\r"};
+    room typed = walled(GIBBONPLATE_MAX_STRING), sends = walled(4 * GIBBONPLATE_MAX_STRING + 9), coded = walled(3 * GIBBONPLATE_MAX_STRING + 9);
     size_t moved = 0, bytes = 0, all = 0, i;
     gibbonplate_set set, singly;
     gibbonplate_answer answer;
@@ -361,20 +424,20 @@ static void strings(size_t times)
         memset(sends.bytes, 0x5A, sends.size);
         memset(coded.bytes, 0x5A, coded.size);
         out = lent(sends, 4 * count + spare, behind);
-        codes = lent(coded, 2 * count + places, behind);
+        codes = lent(coded, 3 * count + places, behind);
         singly = set;
-        CHECK(gibbonplate_feed_all(&set, string, count, carrier, out, 4 * count + spare, codes, 2 * count + places, &sent) == 0);
+        CHECK(gibbonplate_feed_all(&set, string, count, carrier, out, 4 * count + spare, codes, 3 * count + places, &sent) == 0);
         for (k = 0; k < count; k++) {
             uint8_t state = gibbonplate_state(&singly);
             CHECK(gibbonplate_feed(&singly, text[k], carrier, outbox, sizeof outbox, &answer) == 0);
-            CHECK(memcmp(out + at, outbox, answer.sent) == 0 && memcmp(codes + 2 * k, answer.codes, 2) == 0);
+            CHECK(memcmp(out + at, outbox, answer.sent) == 0 && memcmp(codes + 3 * k, answer.codes, 2) == 0 && codes[3 * k + 2] == gibbonplate_s12(&singly));
             at += answer.sent;
             moved += state != gibbonplate_state(&singly);
         }
         CHECK(sent == at && memcmp(&set, &singly, sizeof set) == 0);
         for (k = at; k < 4 * count + spare; k++)
             CHECK(out[k] == 0x5A);
-        for (k = 2 * count; k < 2 * count + places; k++)
+        for (k = 3 * count; k < 3 * count + places; k++)
             CHECK(codes[k] == 0x5A);
         CHECK(memcmp(string, text, count) == 0);
         bytes += sent;
@@ -504,6 +567,7 @@ int main(int argc, char **argv)
         call(argv[2], (uint32_t)strtoul(argv[3], NULL, 10), argv[4]);
     } else if (argc == 2 && strcmp(argv[1], "refusals") == 0) {
         refusals();
+        guards();
     } else if (argc == 3 && strcmp(argv[1], "strings") == 0) {
         strings(strtoull(argv[2], NULL, 10));
     } else if ((argc == 3 || argc == 4) && strcmp(argv[1], "scribble") == 0) {

@@ -423,11 +423,11 @@ STRINGS = [
     one("set.rs", "string_of_255", "bytes.len() > STRING_LIMIT", "bytes.len() >= STRING_LIMIT"),
     one("set.rs", "string_outbox_a_byte_short", "outbox < OUTBOX_NEEDED * bytes.len()", "outbox + 1 < OUTBOX_NEEDED * bytes.len()"),
     one("set.rs", "string_outbox_of_four", "outbox < OUTBOX_NEEDED * bytes.len()", "outbox < OUTBOX_NEEDED"),
-    one("set.rs", "string_codes_a_place_short", "places < 2 * bytes.len()", "places + 1 < 2 * bytes.len()"),
-    one("set.rs", "string_codes_one_a_byte", "places < 2 * bytes.len()", "places < bytes.len()"),
+    one("set.rs", "string_codes_a_place_short", "places < 3 * bytes.len()", "places + 1 < 3 * bytes.len()"),
+    one("set.rs", "string_codes_one_a_byte", "places < 3 * bytes.len()", "places < bytes.len()"),
     one("set.rs", "string_short_in_both_only", "OUTBOX_NEEDED * bytes.len() || places", "OUTBOX_NEEDED * bytes.len() && places"),
     one("set.rs", "string_9_before_8", "if bytes.len() > STRING_LIMIT {",
-        "if bytes.len() > STRING_LIMIT && outbox >= OUTBOX_NEEDED * bytes.len() && places >= 2 * bytes.len() {"),
+        "if bytes.len() > STRING_LIMIT && outbox >= OUTBOX_NEEDED * bytes.len() && places >= 3 * bytes.len() {"),
     one("set.rs", "long_string_is_2", "Answer::declined(8)", "Answer::declined(2)"),
     one("set.rs", "short_room_is_2", "Answer::declined(9)", "Answer::declined(2)"),
     one("set.rs", "string_codes_at_i", "codes.extend_from_slice(&answer.codes);", "codes.push(answer.codes[0]);"),
@@ -436,7 +436,7 @@ STRINGS = [
     one("set.rs", "string_flag_for_the_first_byte", "self.feed(byte, carrier, OUTBOX_NEEDED)",
         "self.feed(byte, carrier && codes.is_empty(), OUTBOX_NEEDED)"),
     one("set.rs", "string_half_typed", "            return (Answer::declined(9), Vec::new());",
-        "            for &byte in &bytes[..bytes.len().min(outbox / OUTBOX_NEEDED).min(places / 2)] { self.feed(byte, carrier, OUTBOX_NEEDED); }"
+        "            for &byte in &bytes[..bytes.len().min(outbox / OUTBOX_NEEDED).min(places / 3)] { self.feed(byte, carrier, OUTBOX_NEEDED); }"
         "            self.session.begin_call(carrier); return (Answer::declined(9), Vec::new());"),
     one("set.rs", "long_string_cut", "            return (Answer::declined(8), Vec::new());", "            return self.feed_all(&bytes[..STRING_LIMIT], carrier, outbox, places);"),
     one("main.rs", "string_not_forgotten", "            kept.clear();\n", ""),
@@ -445,6 +445,39 @@ STRINGS = [
     one("lines.rs", "strings_without_ext", "if extended && outbox.max(places)", "if outbox.max(places)"),
     one("lines.rs", "string_room_of_1201", "STRING_ROOM: u128 = 1_200", "STRING_ROOM: u128 = 1_201"),
     one("lines.rs", "string_codes_of_any_length", "outbox.max(places) <= STRING_ROOM", "outbox <= STRING_ROOM"),
+]
+
+# ---------------------------------------------------------------- 02's E6, S12
+
+S12 = [
+    one("guard.rs", "s12_49_when_fresh", "FRESH: u8 = 50", "FRESH: u8 = 49"),
+    one("guard.rs", "s12_in_tenths", "UNIT: u64 = 20_000_000", "UNIT: u64 = 100_000_000"),
+    one("guard.rs", "s12_of_256_is_0", "u8::try_from(number).ok()", "Some(number as u8)"),
+    one("guard.rs", "s12_of_255_is_none", "u8::try_from(number).ok()", "u8::try_from(number).ok().filter(|&n| n < 255)"),
+    one("guard.rs", "s12_of_four_digits", "digits.len() > 3", "digits.len() > 4"),
+    one("guard.rs", "s12_of_two_digits_at_most", "digits.len() > 3", "digits.len() > 2"),
+    one("guard.rs", "s12_of_no_digits", "digits.is_empty() || ", ""),
+    one("guard.rs", "s12_of_hexadecimal_digits", "all(u8::is_ascii_digit)", "all(u8::is_ascii_hexdigit)"),
+    one("guard.rs", "s12_by_its_last_digit", "10 * n + u32::from", "0 * n + u32::from"),
+    one("guard.rs", "s12_in_capitals_only", "|| self.line.to_ascii_uppercase()", "|| self.line.clone()"),
+    one("guard.rs", "s12_without_equals", 'b"ATS12="', 'b"ATS12"'),
+    one("guard.rs", "s12_told_without_ok", "told([6, 1]", "told([6, 0]"),
+    one("guard.rs", "s12_told_after_ok", "told([6, 1]", "told([1, 6]"),
+    one("guard.rs", "s12_set_without_ok", "self.s12 = s12;\n                    told([1, 0]", "self.s12 = s12;\n                    told([0, 0]"),
+    one("guard.rs", "s12_not_set", "self.s12 = s12;\n", "\n"),
+    one("guard.rs", "s12_kept_by_z", "self.s12 = FRESH;\n                told", "told"),
+    one("guard.rs", "s12_lost_by_ath", "self.seen = false;\n                told([1, 3]", "self.seen = false;\n                self.s12 = FRESH;\n                told([1, 3]"),
+    one("guard.rs", "s12_lost_by_an_answer", "told([1, 0], Act::Answer)", "{ self.s12 = FRESH; told([1, 0], Act::Answer) }"),
+    one("guard.rs", "s12_lost_with_the_carrier", "told([3, 0], Act::HangUp)", "{ self.s12 = FRESH; told([3, 0], Act::HangUp) }"),
+    one("guard.rs", "s12_not_of_the_first_plus", "self.pluses == 0 && self.idle >= self.guard()", "self.pluses == 0 && self.idle >= 50 * UNIT"),
+    one("guard.rs", "s12_not_of_the_later_pluses", "self.idle <= self.guard()", "self.idle <= 50 * UNIT"),
+    one("guard.rs", "s12_not_of_the_end", "self.pluses == 3 && self.idle >= self.guard()", "self.pluses == 3 && self.idle >= 50 * UNIT"),
+    one("guard.rs", "s12_first_plus_after_it", "self.pluses == 0 && self.idle >= self.guard()", "self.pluses == 0 && self.idle > self.guard()"),
+    one("guard.rs", "s12_later_pluses_before_it", "self.idle <= self.guard()", "self.idle < self.guard()"),
+    one("guard.rs", "s12_end_after_it", "self.pluses == 3 && self.idle >= self.guard()", "self.pluses == 3 && self.idle > self.guard()"),
+    Mutant("s12_before_its_byte", "set.rs", ("for &byte in bytes {\n", "for &byte in bytes {\n            let before = self.guard.s12;\n"), ("codes.push(self.guard.s12)", "codes.push(before)")),
+    one("set.rs", "s12_not_in_the_codes", "            codes.push(self.guard.s12);\n", ""),
+    one("set.rs", "s12_of_the_whole_string", "        self.session.sent = sent;\n", "        let last = self.guard.s12; for place in codes.iter_mut().skip(2).step_by(3) { *place = last; }\n        self.session.sent = sent;\n"),
 ]
 
 # ---------------------------------------------------------------- Cannot be seen
@@ -479,4 +512,4 @@ UNSEEN = [
     one("main.rs", "unseen_kept_301", "KEPT: usize = 300", "KEPT: usize = 301", unseen="a string of more than 256 bytes is declined, however many more"),
 ]
 
-ALL = FLOATS + KEYS + STAGES + SET + REFUSALS + AT + LINES + CUE + STRINGS + UNSEEN
+ALL = FLOATS + KEYS + STAGES + SET + REFUSALS + AT + LINES + CUE + STRINGS + S12 + UNSEEN

@@ -14,6 +14,7 @@ LOWEST_RATE, HIGHEST_RATE = 8_000, 192_000
 LARGEST_U64 = 2**64 - 1
 SECOND = 1_000_000_000
 CARRIER_HOLD = 700_000_000
+FRESH_S12, S12_UNIT = 50, 20_000_000
 LINE_LIMIT = 80
 FILL_LIMIT = 65_536
 OUTBOX_NEEDED = 4
@@ -22,7 +23,7 @@ KEPT = 300
 CR, LF, PLUS = 13, 10, 43
 
 IDLE, DIALLING, ANSWERING, CONNECTED = range(4)
-OK, CONNECT, NO_CARRIER, ERROR, IDENTIFICATION = range(1, 6)
+OK, CONNECT, NO_CARRIER, ERROR, IDENTIFICATION, TELL_S12 = range(1, 7)
 
 # ---------------------------------------------------------------- Floats
 
@@ -89,6 +90,12 @@ class Oscillator:
 ROWS = {697: "123A", 770: "456B", 852: "789C", 941: "*0#D"}
 COLUMNS = (1209, 1336, 1477, 1633)
 KEYS = {ord(k): (row, col) for row, keys in ROWS.items() for k, col in zip(keys, COLUMNS)}
+
+
+def sets_s12(line):
+    """02's E6: one to three decimal digits up to 255."""
+    number = line[6:]
+    return line.startswith(b"ATS12=") and 1 <= len(number) <= 3 and all(48 <= b <= 57 for b in number) and int(number) <= 255
 
 
 def digits_of(line_after_atdt):
@@ -276,7 +283,7 @@ class Set:
         self.rate = rate
         self.state, self.digits, self.m, self.shown = IDLE, b"", 0, 0
         self.command_mode, self.line, self.over = True, b"", False
-        self.pluses, self.idle = 0, 0
+        self.pluses, self.idle, self.s12 = 0, 0, FRESH_S12
         self.seen, self.down = False, 0
         self.sent, self.cued, self.codes = b"", 0, b""
 
@@ -303,17 +310,17 @@ class Set:
         return 0, ()
 
     def feed_all(self, string, carrier, outbox, places):
-        """02's E3; `codes` holds two of them a byte."""
+        """02's E3 and E6; `codes` holds two of them and S12 a byte."""
         self.sent, self.codes = b"", b""
         if len(string) > STRING_LIMIT:
             return 8, ()
-        if outbox < OUTBOX_NEEDED * len(string) or places < 2 * len(string):
+        if outbox < OUTBOX_NEEDED * len(string) or places < 3 * len(string):
             return 9, ()
         sent, all_codes = b"", b""
         for byte in string:
             _, codes = self.feed(byte, carrier)
             sent += self.sent
-            all_codes += bytes((tuple(codes) + (0, 0))[:2])
+            all_codes += bytes((tuple(codes) + (0, 0))[:2]) + bytes([self.s12])
         self.sent, self.codes = sent, all_codes
         return 0, ()
 
@@ -321,7 +328,7 @@ class Set:
         self.sent = b""
         if not self.command_mode:
             self.idle = min(self.idle + lapse, LARGEST_U64)
-            if self.pluses == 3 and self.idle >= SECOND:
+            if self.pluses == 3 and self.idle >= self.guard():
                 self.pluses, self.idle, self.command_mode = 0, 0, True
         if carrier and self.state != IDLE:
             self.down = 0
@@ -375,6 +382,9 @@ class Set:
 
     # What the calls are made of.
 
+    def guard(self):
+        return self.s12 * S12_UNIT
+
     def online(self):
         self.command_mode, self.pluses, self.idle = False, 0, 0
 
@@ -386,7 +396,7 @@ class Set:
         if line == b"AT":
             return (OK,)
         if line == b"ATZ":
-            self.pluses, self.idle = 0, 0
+            self.pluses, self.idle, self.s12 = 0, 0, FRESH_S12
             return (OK,)
         if line == b"ATI":
             return IDENTIFICATION, OK
@@ -407,11 +417,16 @@ class Set:
             self.digits = digits_of(line[4:])
             self.online()
             return (OK,)
+        if line == b"ATS12?":
+            return TELL_S12, OK
+        if sets_s12(line):
+            self.s12 = int(line[6:])
+            return (OK,)
         return (ERROR,)
 
     def data_byte(self, byte):
-        opens = self.pluses == 0 and self.idle >= SECOND
-        extends = self.pluses in (1, 2) and self.idle <= SECOND
+        opens = self.pluses == 0 and self.idle >= self.guard()
+        extends = self.pluses in (1, 2) and self.idle <= self.guard()
         if byte == PLUS and (opens or extends):
             self.pluses += 1
         else:

@@ -77,6 +77,8 @@ def count(script, answers, extended=False, spread=None):
 class Before:
     """What a call found."""
 
+    guard = paper.Set.guard
+
     def __init__(self, s, kept=b""):
         self.__dict__.update(vars(s))
         self.set, self.kept = copy.copy(s), kept
@@ -134,7 +136,9 @@ def note_typed(reached, before, numbers, after, row):
 def note_data_byte(reached, before, byte, after):
     if not after.sent:
         reached[f"plus {after.pluses} withheld"] += 1
-        if before.idle == SECOND:
+        reached[f"plus {after.pluses} withheld at an S12 of its own"] += before.s12 != paper.FRESH_S12 and before.idle == before.guard()
+        reached["plus withheld at S12 0"] += before.s12 == 0
+        if before.idle == SECOND and before.s12 == paper.FRESH_S12:
             reached[f"plus {after.pluses} withheld at 1 s"] += 1
         return
     reached[f"byte sent in {STATE_NAMES[before.state]}"] += 1
@@ -144,6 +148,10 @@ def note_data_byte(reached, before, byte, after):
         reached[f"{before.pluses} held pluses sent"] += 1
     if byte == PLUS:
         reached[f"{len(after.sent)} pluses sent"] += 1
+        if before.s12 != paper.FRESH_S12:
+            reached["plus sent 1 ns early at an S12 of its own"] += before.pluses == 0 and before.idle == before.guard() - 1
+            reached["plus sent 1 ns late at an S12 of its own"] += before.pluses in (1, 2) and before.idle == before.guard() + 1
+            return
         if before.pluses == 0 and before.idle == SECOND - 1:
             reached["plus sent 1 ns early"] += 1
         if before.pluses in (1, 2) and before.idle == SECOND + 1:
@@ -165,6 +173,7 @@ def note_command(reached, before, carrier, after, row):
         reached[f"line of {len(line)} bytes"] += 1
     known = (b"AT", b"ATZ", b"ATI", b"ATA", b"ATH", b"ATH0", b"ATO", b"ATO0", b"ATDP1", b"AT DT1", b"ATX")
     name = STATE_NAMES[before.state]
+    note_s12(reached, before, line, after)
     if line in known:
         reached[line.decode()] += 1
     if line in (b"ATO", b"ATO0"):
@@ -181,6 +190,22 @@ def note_command(reached, before, carrier, after, row):
         note_dial(reached, before, line, after)
     elif before.seen and not after.seen:
         reached["mark cleared by a command"] += 1
+
+
+def note_s12(reached, before, line, after):
+    """02's E6."""
+    if line == b"ATS12?":
+        reached["ATS12?"] += 1
+    elif paper.sets_s12(line):
+        reached[f"S12 set to {after.s12}" if after.s12 in (0, 1, 49, 50, 51, 255) else "S12 set to another"] += 1
+        reached["S12 with leading zeros"] += line[6:] != str(after.s12).encode()
+    elif line.startswith(b"ATS12"):
+        reached["other form of an S12 line"] += 1
+        reached["S12 of 256"] += line == b"ATS12=256"
+        reached["S12 of four digits"] += line in (b"ATS12=0050", b"ATS12=1000")
+        reached["S12 of none"] += line == b"ATS12="
+    elif before.s12 != paper.FRESH_S12 and line in (b"ATZ", b"ATH", b"ATH0", b"ATA"):
+        reached[f"{line.decode()} at an S12 of its own"] += 1
 
 
 def note_dial(reached, before, line, after):
@@ -203,11 +228,13 @@ def note_lapse(reached, before, numbers, after, row):
     if not before.command_mode and before.idle + lapse > LARGEST_U64:
         reached["idle at its largest"] += 1
     if before.pluses == 3:
-        idle = before.idle + lapse
+        idle, guard = before.idle + lapse, before.guard()
+        at = "1 s" if before.s12 == paper.FRESH_S12 else "an S12 of its own"
         if row[1] == "C" and row[5] != "3":
             reached[f"escape in {name}"] += 1
-            reached["escape at 1 s"] += idle == SECOND
-        reached["escape 1 ns short"] += idle == SECOND - 1
+            reached[f"escape at {at}"] += idle == guard
+            reached["escape by a lapse of 0 ns"] += before.s12 == 0 and lapse == 0
+        reached[f"escape 1 ns short of {at}"] += idle == guard - 1
     if carrier and before.state == IDLE:
         reached["carrier up in Idle"] += 1
     elif carrier and not before.seen:
@@ -300,7 +327,7 @@ def note_cue(reached, before, numbers, after, row):
 def note_string(reached, before, numbers, after, row):
     carrier, outbox, places = numbers
     string, size, state = before.kept, len(before.kept), STATE_NAMES[before.state]
-    wanted, wanted_places = 4 * size, 2 * size
+    wanted, wanted_places = 4 * size, 3 * size
     if row[0] == "8":
         reached[f"string of {size} bytes declined" if size in (257, 300) else "longer string declined"] += 1
         reached["string too long and without room"] += outbox < wanted or places < wanted_places
@@ -315,8 +342,8 @@ def note_string(reached, before, numbers, after, row):
     reached["string with just enough room"] += size > 0 and outbox == wanted and places == wanted_places
     reached["string with more room than that"] += outbox > wanted and places > wanted_places
     reached[f"string in {state}"] += size > 0
-    reached["string with two codes of a byte"] += any(after.codes[1::2])
-    reached["string with codes of several bytes"] += sum(map(bool, after.codes[::2])) > 1
+    reached["string with two codes of a byte"] += any(after.codes[1::3])
+    reached["string with codes of several bytes"] += sum(map(bool, after.codes[::3])) > 1
     reached["string that sends"] += len(after.sent) > 1
     # The single bytes, each noted as a typed one is.
     one, moves, modes = before.set, [], set()
@@ -336,7 +363,8 @@ def note_string(reached, before, numbers, after, row):
         reached[f"string that {move}"] += 1
     reached["string that hangs up and dials"] += "hangs up" in moves and moves[-1] == "dials"
     reached["string in both modes"] += len(modes) == 2
-    reached["string whose carrier flag is heard"] += carrier == 1 and 2 in after.codes
+    reached["string whose carrier flag is heard"] += carrier == 1 and 2 in after.codes[::3]
+    reached["string with several S12"] += len(set(after.codes[2::3])) > 1
 
 
 NOTES = {"R": note_create, "T": note_typed, "W": note_lapse, "F": note_fill, "D": note_forced, "C": note_cue, "S": note_string}
@@ -371,7 +399,12 @@ def must(extended):
     names += [f"{n} pluses sent" for n in (1, 2, 3, 4)] + [f"{n} held pluses sent" for n in (1, 2, 3)]
     names += ["plus sent 1 ns early", "plus 2 sent 1 ns late", "plus 3 sent 1 ns late", "LF sent"]
     names += ["plus that broke an escape after a second"]
-    names += ["escape at 1 s", "escape 1 ns short", "idle at its largest"]
+    names += ["escape at 1 s", "escape 1 ns short of 1 s", "idle at its largest"]
+    names += [f"S12 set to {n}" for n in (0, 1, 49, 50, 51, 255)] + ["S12 set to another", "S12 with leading zeros", "ATS12?", "codes 6,1 on T"]
+    names += ["other form of an S12 line", "S12 of 256", "S12 of four digits", "S12 of none", "ATZ at an S12 of its own", "ATH at an S12 of its own"]
+    names += [f"plus {n} withheld at an S12 of its own" for n in (1, 2, 3)] + ["plus withheld at S12 0"]
+    names += [f"plus sent 1 ns {when} at an S12 of its own" for when in ("early", "late")]
+    names += ["escape at an S12 of its own", "escape 1 ns short of an S12 of its own", "escape by a lapse of 0 ns"]
     names += ["carrier up in Idle", "carrier seen in command mode", "carrier seen in data mode"]
     names += ["carrier seen as an escape ends", "down time zeroed", "down time in pieces", "down time at its largest"]
     names += ["carrier kept at 699,999,999 ns", "carrier lost at 700 ms", "carrier lost in command mode"]
@@ -397,7 +430,7 @@ def must(extended):
         names += ["string with both buffers short", "declined string that would dial", "string with just enough room"]
         names += [f"string of {n} bytes" for n in (0, 1, 256)] + ["string of other length", "string with more room than that"]
         names += [f"string in {state}" for state in STATE_NAMES] + ["string in both modes", "string whose carrier flag is heard"]
-        names += ["string with two codes of a byte", "string with codes of several bytes", "string that sends"]
+        names += ["string with several S12", "string with two codes of a byte", "string with codes of several bytes", "string that sends"]
         names += ["string that lets pluses go", "string that withholds a plus", "string that runs over a line"]
         names += [f"string that {what}" for what in ("dials", "answers", "hangs up", "hangs up and dials")]
     return names

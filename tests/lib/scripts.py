@@ -20,6 +20,11 @@ COMMANDS = (
 STRINGS = (b"ATH\rATDT12", b"ATDT5551234", b"ATA", b"ATI", b"ATO", b"ATH0\rATA", b"ATDT1\rabc")
 BLOCKS = (64, 128, 160, 256, 441, 480, 512, 1_024, 2_048, 4_096, 8_192, 16_383, 16_384)
 KEYS = b"0123456789*#ABCDabcd"
+S12S = (0, 1, 2, 49, 50, 51, 127, 255)
+S12_FORMS = (
+    b"ATS12", b"ATS12=", b"ATS12=256", b"ATS12=300", b"ATS12=999", b"ATS12=0050", b"ATS12=1000", b"ATS12=5X", b"ATS12=X5", b"ATS12= 5",
+    b"ATS12=5 ", b"ATS12=+5", b"ATS12=-1", b"ATS12:5", b"ATS12==5", b"ATS12??", b"ATS12 ?", b"ATS125", b"ATS012=5", b"ATS1=5", b"ATS2=43",
+)
 NO_KEYS = b" -()EFGZefgz,.+\x00\x7f\x80\xc3\xff"
 OTHER_LINES = (
     b"", b" ", b"R", b"R,", b"R,8000,", b"R,8000,1", b"R,8000 ", b"R 8000", b"R,-8000", b"R,+8000",
@@ -102,10 +107,10 @@ class Script:
         carrier = self.set.seen or self.chance(0.2)
         if self.set.pluses in (1, 2):
             self.put(b"T,120,0")
-        self.lapse(SECOND, carrier)
+        self.lapse(self.set.guard(), carrier)
         while not self.set.command_mode and self.set.pluses < 3:
             self.put(b"T,43,0")
-        self.lapse(SECOND, carrier)
+        self.lapse(self.set.guard(), carrier)
 
     def to_data_mode(self):
         if self.set.command_mode:
@@ -395,7 +400,7 @@ class Script:
         self.keep(string)
         size = len(self.wall.kept)
         outbox = min(4 * size, 1_200) if outbox is None else outbox
-        places = min(2 * size, 1_200) if places is None else places
+        places = min(3 * size, 1_200) if places is None else places
         self.put(b"S," + self.flag(carrier) + b"," + self.number(outbox) + b"," + self.number(places))
 
     def some_string(self):
@@ -430,11 +435,50 @@ class Script:
                 string = string[len(string) // 2:]
             size = len(self.wall.kept) + len(string)
             room = lambda each: min(1_200, max(0, self.random.choice((each * size,) * 4 + (each * size - 1, each * size + 1, 0, 1_200))))
-            self.type_string(string, self.chance(0.4), room(4), room(2))
+            self.type_string(string, self.chance(0.4), room(4), room(3))
             if self.chance(0.3):
                 self.fill(self.random.choice((0, 1, 9, 400)))
             if self.chance(0.3):
                 self.lapse(self.random.choice(GUARDS), self.chance(0.5))
+
+    def set_s12(self):
+        number = self.random.choice(S12S)
+        self.enter(b"ATS12=" + str(number).zfill(self.random.choice((1, 1, 2, 3))).encode())
+
+    def edge(self):
+        """The guard time, a nanosecond before it or after it."""
+        return max(0, self.set.guard() + self.random.choice((-1, 0, 0, 1)))
+
+    def scene_s12(self):
+        """02's E6: S12 set, asked for and reset, wrong forms, and escapes at the edges of its guard time; then mostly a fresh set."""
+        for _ in range(self.random.randint(1, 3)):
+            pick = self.random.random()
+            if pick < 0.5:
+                self.set_s12()
+            elif pick < 0.75:
+                self.enter(self.random.choice(S12_FORMS))
+            elif pick < 0.9:
+                self.enter(b"ATS12?")
+            else:
+                self.enter(self.random.choice((b"ATZ", b"ATH", b"ATA", b"ATDT5")))
+        for _ in range(self.random.randint(0, 2)):
+            self.to_data_mode()
+            carrier = self.set.seen
+            if self.set.pluses:
+                self.put(b"T,120,0")
+            self.lapse_in_pieces(self.edge() if self.chance(0.4) else self.set.guard(), carrier)
+            for _ in range(self.random.choice((1, 2, 3, 3, 3, 3, 4))):
+                self.put(b"T,43,0")
+                if self.chance(0.5):
+                    self.lapse_in_pieces(self.random.choice((self.edge(), self.edge(), 0)), carrier)
+            self.lapse_in_pieces(self.edge(), carrier)
+            if self.set.command_mode and self.chance(0.5):
+                self.enter(self.random.choice((b"ATS12?", b"ATZ", b"ATH0", b"ATO")), self.chance(0.5))
+        if self.extended and self.chance(0.4):
+            self.to_command_mode()
+            self.type_string(b"ATS12=%d\rATS12?\r%sATS12?\r" % (self.random.choice(S12S), self.random.choice((b"", b"ATZ\r", b"ATH\r"))))
+        if self.chance(0.9):
+            self.create(self.some_rate())
 
     def scene_in_connected(self):
         """Fills, bytes and a new dial once the line is up."""
@@ -490,7 +534,7 @@ class Script:
         (scene_fresh, 6), (scene_command, 12), (scene_empty_line, 2), (scene_dial, 10), (scene_fill, 10),
         (scene_stage_end, 8), (scene_walk, 3), (scene_line_up, 3), (scene_inner_edge, 5), (scene_escape, 10),
         (scene_carrier, 8), (scene_resume, 5), (scene_hang_up, 4), (scene_huge_lapse, 2), (scene_forced, 4), (scene_long_line, 4), (scene_other_lines, 4), (scene_noise, 5),
-        (scene_extended, 8), (scene_cue, 6), (scene_string, 10), (scene_in_connected, 3), (scene_in_answering, 3),
+        (scene_extended, 8), (scene_cue, 6), (scene_string, 10), (scene_s12, 6), (scene_in_connected, 3), (scene_in_answering, 3),
     )
 
     def write(self, count):

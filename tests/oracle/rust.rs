@@ -11,6 +11,7 @@ mod overture;
 mod rust_session;
 
 mod cue;
+mod guard;
 mod left_out;
 #[path = "stand_in.rs"]
 mod session;

@@ -1,7 +1,9 @@
 //! What 01's set adds to the Rust: the calls it declines, the count m, and the numbers
-//! for states, stages and replies. And 02's E1: a line that ran over is not dialled.
+//! for states, stages and replies. And 02's E1: a line that ran over is not dialled; and its E6: from the
+//! first S12 line on guard.rs is the AT processor.
 
 use crate::at::{AtProcessor, Response};
+use crate::guard::{Act, Processor, Step};
 use crate::overture::Stage;
 use crate::rust_session::SessionState;
 use crate::session::Session;
@@ -43,6 +45,9 @@ pub struct Set {
     /// the rest is handed to it with the CR.
     line: Vec<u8>,
     m: u64,
+    /// 02's E6, and whether a line set S12 or asked for it.
+    guard: Processor,
+    s12_line_came: bool,
 }
 
 impl Set {
@@ -55,13 +60,19 @@ impl Set {
     }
 
     fn fresh(rate: u32) -> Self {
-        Set { at: AtProcessor::new(), session: Session::new(rate), line: Vec::new(), m: 0 }
+        let (at, session, guard) = (AtProcessor::new(), Session::new(rate), Processor::new());
+        Set { at, session, line: Vec::new(), m: 0, guard, s12_line_came: false }
     }
 
     pub fn feed(&mut self, byte: u8, carrier: bool, outbox: usize) -> Answer {
         self.session.begin_call(carrier);
         if outbox < OUTBOX_NEEDED {
             return Answer::declined(2);
+        }
+        self.s12_line_came |= self.guard.ends_s12_line(byte);
+        let step = self.guard.feed(byte, self.session.carrier_detected());
+        if self.s12_line_came {
+            return self.perform(step);
         }
         if self.at.in_command_mode() && byte != b'\r' && byte != b'\n' {
             self.line.push(byte);
@@ -77,13 +88,13 @@ impl Set {
         Answer::replied(reply)
     }
 
-    /// 02's E3: the bytes typed singly; what they sent and their codes, joined.
+    /// 02's E3 and E6: the bytes typed singly; what they sent, and their codes with the S12 after each, joined.
     pub fn feed_all(&mut self, bytes: &[u8], carrier: bool, outbox: usize, places: usize) -> (Answer, Vec<u8>) {
         self.session.begin_call(carrier);
         if bytes.len() > STRING_LIMIT {
             return (Answer::declined(8), Vec::new());
         }
-        if outbox < OUTBOX_NEEDED * bytes.len() || places < 2 * bytes.len() {
+        if outbox < OUTBOX_NEEDED * bytes.len() || places < 3 * bytes.len() {
             return (Answer::declined(9), Vec::new());
         }
         let (mut sent, mut codes) = (Vec::new(), Vec::new());
@@ -91,6 +102,7 @@ impl Set {
             let answer = self.feed(byte, carrier, OUTBOX_NEEDED);
             sent.extend_from_slice(&self.session.sent);
             codes.extend_from_slice(&answer.codes);
+            codes.push(self.guard.s12);
         }
         self.session.sent = sent;
         (Answer::default(), codes)
@@ -98,6 +110,10 @@ impl Set {
 
     pub fn advance_time(&mut self, lapse: core::time::Duration, carrier: bool) -> Answer {
         self.session.begin_call(carrier);
+        let step = self.guard.lapse(lapse.as_nanos() as u64, self.session.carrier_detected());
+        if self.s12_line_came {
+            return self.perform(step);
+        }
         let reply = self.at.advance_time(lapse, &mut self.session);
         self.restart_count_if_moved();
         Answer::replied(reply)
@@ -105,6 +121,7 @@ impl Set {
 
     pub fn force_data_mode(&mut self) -> Answer {
         self.session.begin_call(false);
+        self.guard.go_online();
         self.at.force_data_mode();
         Answer::default()
     }
@@ -137,7 +154,7 @@ impl Set {
     }
 
     pub fn in_command_mode(&self) -> bool {
-        self.at.in_command_mode()
+        if self.s12_line_came { self.guard.command_mode } else { self.at.in_command_mode() }
     }
 
     pub fn state(&self) -> u8 {
@@ -161,6 +178,19 @@ impl Set {
     /// The ring, 0 for none.
     pub fn ring(&self) -> u8 {
         self.session.ring_number().unwrap_or(0)
+    }
+
+    /// Does what guard.rs asks of the session.
+    fn perform(&mut self, step: Step) -> Answer {
+        match step.act {
+            Act::Nothing => {}
+            Act::Dial(digits) => self.session.dial(&digits),
+            Act::Answer => self.session.answer(),
+            Act::HangUp => self.session.hangup(),
+        }
+        self.session.send(&step.sent);
+        self.restart_count_if_moved();
+        Answer { refusal: 0, codes: step.codes }
     }
 
     fn dials(&self) -> bool {

@@ -33,13 +33,13 @@ nothing-written text was e = go (leb (length text) (length was)) text e
     go true [] e = refl
     go true (x ∷ text) e = let no : ⊥ = omega arith in absurd no
 
-writer-answers : (code : ℕ) (κs : Lfts 1) (out : RefT (List ℕ)) (left : List ℕ) (n : ℕ)
-    → write-reply.Learnt κs (code, (out, tt)) n (code, (at-last out left, tt))
-    → (n ≡ putLength (textOf code) (length (now out))) × (n ≡ 0 → left ≡ now out)
-writer-answers code κs out left n d =
-    let told : n ≡ putLength (textOf code) (length (now out)) = d .0 in
-    let wrote : left ≡ put (textOf code) (now out) = d .1 in
-    (told, λ nothing. wrote ∙ nothing-written (textOf code) (now out) (sym told ∙ nothing))
+writer-answers : (code s12 : ℕ) (κs : Lfts 1) (out : RefT (List ℕ)) (left : List ℕ) (n : ℕ)
+    → write-reply.Learnt κs (code, (s12, (out, tt))) n (code, (s12, (at-last out left, tt)))
+    → (n ≡ putLength (textOf code s12) (length (now out))) × (n ≡ 0 → left ≡ now out)
+writer-answers code s12 κs out left n d =
+    let told : n ≡ putLength (textOf code s12) (length (now out)) = d .0 in
+    let wrote : left ≡ put (textOf code s12) (now out) = d .1 in
+    (told, λ nothing. wrote ∙ nothing-written (textOf code s12) (now out) (sym told ∙ nothing))
 
 never-4 : (refusal : Refusal) → refusalNumber refusal ≡ 4 → ⊥
 never-4 Accepted e = omega arith
@@ -69,6 +69,6 @@ answers s =
       ring = (tt, ring-number-answers s);
       cue = λ p. (tt, cue-answers s p);
       never4 = (never-4, cue-never-4);
-      writer = λ code κs out. (tt, writer-answers code κs out);
+      writer = λ code s12 κs out. (tt, writer-answers code s12 κs out);
       oscillator = λ nco outside. (rw outside, rw outside);
     }

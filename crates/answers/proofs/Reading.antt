@@ -147,10 +147,10 @@ module _ (s : Set) (r : Bool) (d : is-sound.Learnt tt (s, tt) r (s, tt)) where
   pub never-4 : ((refusal : Refusal) → refusalNumber refusal ≡ 4 → ⊥) × ((refusal : cueRefusal.Refusal) → cueRefusalNumber refusal ≡ 4 → ⊥)
   never-4 = told .never4
 
-  pub writer-answers : (code : ℕ) (κs : Lfts 1) (out : RefT (List ℕ))
-      → write-reply.Asked κs (code, (out, tt))
-      × ((left : List ℕ) (n : ℕ) → write-reply.Learnt κs (code, (out, tt)) n (code, (at-last out left, tt))
-      → (n ≡ putLength (textOf code) (length (now out))) × (n ≡ 0 → left ≡ now out))
+  pub writer-answers : (code s12 : ℕ) (κs : Lfts 1) (out : RefT (List ℕ))
+      → write-reply.Asked κs (code, (s12, (out, tt)))
+      × ((left : List ℕ) (n : ℕ) → write-reply.Learnt κs (code, (s12, (out, tt))) n (code, (s12, (at-last out left, tt)))
+      → (n ≡ putLength (textOf code s12) (length (now out))) × (n ≡ 0 → left ≡ now out))
   writer-answers = told .writer
 
   pub oscillator-answers : (nco : Nco) → phaseInRange (nco .phase) && phaseInRange (nco .step) ≡ false → (lentSample nco ≡ zero) × (lentNco nco ≡ nco)

@@ -82,10 +82,10 @@ pub record Answers (s : Set) : Type 0 where
   -- 02, E1: number 4 never occurs: no refusal has it, so that no call on any set answers it
   pub never4 : ((refusal : Refusal) → refusalNumber refusal ≡ 4 → ⊥) × ((refusal : cueRefusal.Refusal) → cueRefusalNumber refusal ≡ 4 → ⊥)
   -- the writer of replies: where it writes nothing the buffer keeps its contents
-  pub writer : (code : ℕ) (κs : Lfts 1) (out : RefT (List ℕ))
-      → write-reply.Asked κs (code, (out, tt))
-      × ((left : List ℕ) (n : ℕ) → write-reply.Learnt κs (code, (out, tt)) n (code, (at-last out left, tt))
-      → (n ≡ putLength (textOf code) (length (now out))) × (n ≡ 0 → left ≡ now out))
+  pub writer : (code s12 : ℕ) (κs : Lfts 1) (out : RefT (List ℕ))
+      → write-reply.Asked κs (code, (s12, (out, tt)))
+      × ((left : List ℕ) (n : ℕ) → write-reply.Learnt κs (code, (s12, (out, tt))) n (code, (s12, (at-last out left, tt)))
+      → (n ≡ putLength (textOf code s12) (length (now out))) × (n ≡ 0 → left ≡ now out))
   -- the lent oscillator, whose contract is proved by hand and promises these definitions: with phase or step outside [0, TAU) it gives 0.0 and
   -- the record stays
   pub oscillator : (nco : Nco) → phaseInRange (nco .phase) && phaseInRange (nco .step) ≡ false → (lentSample nco ≡ zero) × (lentNco nco ≡ nco)

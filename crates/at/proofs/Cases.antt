@@ -7,16 +7,16 @@ use mathlib.Core.List.{List, [], _∷_}
 use mathlib.Core.Bool.{true, false}
 use Rattle.ascii.specs.Ascii.{ascii}
 use Rattle.ascii.specs.Upper.{upper}
-use Rattle.reply.specs.declared.Code.the-variants.{NoCarrier, Error}
+use Rattle.reply.specs.declared.Code.the-variants.{Ok, NoCarrier, Error, S12}
 use Rattle.reply.specs.declared.Reply.{Reply}
-use Rattle.reply.specs.declared.Reply.the-variants.{None, One}
+use Rattle.reply.specs.declared.Reply.the-variants.{None, One, Two}
 use Rattle.command.specs.Line.{emptyLine, soundLine, pushed, uppercased}
 use Rattle.command.proofs.Cases.{ones, marked}
-use Rattle.command.specs.Command.{begins, is, commandOf}
+use Rattle.command.specs.Command.{begins, is, allDigits, valueFrom, isSetting, settingOf, commandOf}
 use Rattle.at.specs.declared.AtProcessor.{AtProcessor}
 use Rattle.at.specs.declared.Control.the-variants.{Dial}
 use Rattle.at.specs.declared.Fed.{Fed}
-use Rattle.at.specs.Processor.{fresh, lineOf, pluses, sound, online, withLine, withEscape, withCarrier, added}
+use Rattle.at.specs.Processor.{fresh, commandMode, lineOf, pluses, sound, online, withLine, withEscape, withCarrier, withS12, added}
 use Rattle.at.specs.Command.{executed}
 use Rattle.at.specs.Escape.{withheld, released, dataByte, escaped, waited}
 use Rattle.at.specs.Carrier.{polled, downFor}
@@ -29,7 +29,7 @@ typing (byte ∷ bytes) p = typing bytes (typedByte p byte false 4 .processor)
 
 -- the answer to the CR after it
 pub answerTo : String → Fed
-unfolding typing typedByte commandByte ended pushed upper uppercased begins is commandOf executed
+unfolding typing typedByte commandByte ended pushed upper uppercased begins is allDigits valueFrom isSetting settingOf commandOf executed
 answerTo line = typedByte (typing (ascii line) fresh) (code "\r") false 4
 
 -- ATDT12
@@ -61,6 +61,27 @@ pub atdt-77 : (answerTo "ATDT111111111111111111111111111111111111111111111111111
 unfolding answerTo
 atdt-77 = (refl, refl)
 
+-- 02, E6: S12 is 50 when fresh; up to three digits up to 255 set it, small letters too, and ATS12? gives codes 6 and 1
+pub s12-set : (fresh .s12 ≡ 50)
+    × (answerTo "ATS12=0" .processor .s12 ≡ 0)
+    × (answerTo "ats12=007" .processor .s12 ≡ 7)
+    × (answerTo "ATS12=255" .processor .s12 ≡ 255)
+    × (answerTo "ATS12=255" .reply ≡ One Ok)
+    × (answerTo "ats12?" .reply ≡ Two S12 Ok)
+unfolding answerTo
+s12-set = (refl, refl, refl, refl, refl, refl)
+
+-- other forms are ERROR: past 255, four digits, none, no digit, and the bare register
+pub s12-wrong : (answerTo "ATS12=256" .reply ≡ One Error)
+    × (answerTo "ATS12=0050" .reply ≡ One Error)
+    × (answerTo "ATS12=" .reply ≡ One Error)
+    × (answerTo "ATS12=5X" .reply ≡ One Error)
+    × (answerTo "ATS12" .reply ≡ One Error)
+    × (answerTo "ATS12??" .reply ≡ One Error)
+    × (answerTo "ATS12=256" .processor .s12 ≡ 50)
+unfolding answerTo
+s12-wrong = (refl, refl, refl, refl, refl, refl, refl)
+
 -- a lapse without a carrier, and the same followed by a plus
 pub after : ℕ → AtProcessor → AtProcessor
 unfolding lapse waited escaped polled downFor added
@@ -84,6 +105,20 @@ first-plus = (refl, refl)
 pub second-plus : (sentAfter 1_000_000_001 (plusAfter 1_000_000_000 (online fresh)) ≡ ascii "++") × (pluses (plusAfter 1_000_000_001 (plusAfter 1_000_000_000 (online fresh))) ≡ 0)
 unfolding sentAfter plusAfter
 second-plus = (refl, refl)
+
+-- 02, E6: with 51 the same two edges are 20 ms later; with 0 a first plus is always withheld, a second only in the same instant, and a lapse of
+-- 0 ns completes the escape
+pub s12-51 : (sentAfter 1_020_000_000 (withS12 51 (online fresh)) ≡ []) × (sentAfter 1_019_999_999 (withS12 51 (online fresh)) ≡ ascii "+")
+    × (sentAfter 1_020_000_000 (plusAfter 1_020_000_000 (withS12 51 (online fresh))) ≡ [])
+    × (sentAfter 1_020_000_001 (plusAfter 1_020_000_000 (withS12 51 (online fresh))) ≡ ascii "++")
+unfolding sentAfter plusAfter
+s12-51 = (refl, refl, refl, refl)
+
+pub s12-0 : (sentAfter 0 (withS12 0 (online fresh)) ≡ []) × (sentAfter 0 (plusAfter 0 (withS12 0 (online fresh))) ≡ [])
+    × (sentAfter 1 (plusAfter 0 (withS12 0 (online fresh))) ≡ ascii "++")
+    × (commandMode (after 0 (withS12 0 (withEscape 3 0 (online fresh)))) ≡ true)
+unfolding sentAfter plusAfter
+s12-0 = (refl, refl, refl, refl)
 
 -- a fourth plus: four sent
 pub fourth-plus : sentAfter 0 (plusAfter 0 (plusAfter 0 (plusAfter 1_000_000_000 (online fresh)))) ≡ ascii "++++"

@@ -19,4 +19,4 @@ few n false long short false false false e0 e1 e2 w = let z : _≡_ {A = ℕ} 0 
 
 pub withheld-few : (p : AtProcessor) (byte : ℕ) → withheld p byte ≡ true → pluses p ≤ 2
 unfolding withheld
-withheld-few p byte w = few (pluses p) (eqb byte (code "+")) (leb guardTime (p .idle)) (leb (p .idle) guardTime) _ _ _ refl refl refl w
+withheld-few p byte w = few (pluses p) (eqb byte (code "+")) (leb (guardTime p) (p .idle)) (leb (p .idle) (guardTime p)) _ _ _ refl refl refl w

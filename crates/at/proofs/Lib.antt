@@ -6,3 +6,4 @@ pub mod Sound
 pub mod Outbox
 pub mod Lines
 pub mod Overlong
+pub mod Before

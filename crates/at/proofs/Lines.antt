@@ -83,7 +83,7 @@ lapse-keeps-line p ns carrier = let q = waitedIf (commandMode p) p ns in polls c
 
     waits : (mode : Bool) → lineOf (waitedIf mode p ns) ≡ lineOf p
     waits true = refl
-    waits false = let q = withEscape (pluses p) (added (p .idle) ns) p in escapes (eqb (pluses q) 3 && leb guardTime (q .idle)) q
+    waits false = let q = withEscape (pluses p) (added (p .idle) ns) p in escapes (eqb (pluses q) 3 && leb (guardTime q) (q .idle)) q
 
     downs : (t : Bool) (q : AtProcessor) (down : ℕ) → lineOf (downIf t q down .processor) ≡ lineOf q
     downs true q down = refl

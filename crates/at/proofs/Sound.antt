@@ -8,7 +8,7 @@ use mathlib.Core.Bool.{Bool, true, false, _&&_, and-eq-true-iff}
 use lib.Dec.{leb, eqb}
 use borrow.Author.Tests.{leb-true, leb-false, ltb-true, le-leb, lt-ltb}
 use Rattle.command.specs.declared.Command.{Command}
-use Rattle.command.specs.declared.Command.the-variants.{At, Atz, Ati, Ata, Ath, Ato, Atdt, Unknown}
+use Rattle.command.specs.declared.Command.the-variants.{At, Atz, Ati, Ata, Ath, Ato, Atdt, AskS12, SetS12, Unknown}
 use Rattle.command.specs.Line.{soundLine}
 use Rattle.command.proofs.Pushed.{sound-empty, sound-pushed}
 use Rattle.at.specs.declared.AtProcessor.{AtProcessor}
@@ -57,6 +57,8 @@ kept-executed Ath carrier p s = with-ranges (s .line) (omega arith)
 kept-executed Ato true p s = with-ranges (s .line) (omega arith)
 kept-executed Ato false p s = with-ranges (s .line) (omega arith)
 kept-executed Atdt carrier p s = with-ranges (s .line) (omega arith)
+kept-executed AskS12 carrier p s = with-ranges (s .line) (omega arith)
+kept-executed (SetS12 n) carrier p s = with-ranges (s .line) (omega arith)
 kept-executed Unknown carrier p s = with-ranges (s .line) (omega arith)
 
 kept-typed : {p : AtProcessor} {byte : ℕ} {carrier : Bool} {room : ℕ} {f : Fed} {bytes : List ℕ} → Sound p → Typed p byte carrier room f bytes → Sound (f .processor)
@@ -81,7 +83,7 @@ unfolding escaped
 kept-waited true p ns s = with-ranges (s .line) (omega arith)
 kept-waited false p ns s =
     let idle = added (p .idle) ns in
-    kept-escaped (eqb (pluses p) 3 && leb guardTime idle) (withEscape (pluses p) idle p) (with-ranges (s .line) (omega arith))
+    kept-escaped (eqb (pluses p) 3 && leb (guardTime p) idle) (withEscape (pluses p) idle p) (with-ranges (s .line) (omega arith))
 
 kept-down : (t : Bool) (p : AtProcessor) (down : ℕ) → leb holdTime down ≡ t → Sound p → Sound (downIf t p down .processor)
 kept-down true p down e s = with-ranges (s .line) (omega arith)

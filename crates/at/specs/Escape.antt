@@ -1,5 +1,5 @@
--- 01, "The AT processor": data mode, the bytes that it sends and its escape.
-use Prim.Native.Nat.{ℕ, _+_}
+-- 01, "The AT processor": data mode, the bytes that it sends and its escape. 02, E6: its guard time is that of S12.
+use Prim.Native.Nat.{ℕ, _+_, _*_}
 use Prim.Native.Char.{code}
 use mathlib.Core.List.{List, [], _∷_, _++_}
 use mathlib.Core.Bool.{Bool, true, false, _&&_, _||_}
@@ -13,16 +13,16 @@ use Rattle.at.specs.declared.Fed.{Fed}
 use Rattle.at.specs.Processor.{commandMode, pluses, withMode, withEscape, added}
 use Rattle.at.specs.Answer.{quiet}
 
--- 1 s
-abbrev pub guardTime : ℕ
-guardTime = 1_000_000_000
+-- S12 × 20 ms
+abbrev pub guardTime : AtProcessor → ℕ
+guardTime p = p .s12 * 20_000_000
 
--- a plus is withheld if none is held and idle >= 1 s, or one or two are and idle <= 1 s
+-- a plus is withheld if none is held and idle >= the guard time, or one or two are and idle <= it
 unfoldable pub withheld : AtProcessor → ℕ → Bool
 withheld p byte =
     eqb byte (code "+")
-    && ((eqb (pluses p) 0 && leb guardTime (p .idle))
-    || ((eqb (pluses p) 1 || eqb (pluses p) 2) && leb (p .idle) guardTime))
+    && ((eqb (pluses p) 0 && leb (guardTime p) (p .idle))
+    || ((eqb (pluses p) 1 || eqb (pluses p) 2) && leb (p .idle) (guardTime p)))
 
 -- any other byte sends the held pluses, then itself
 abbrev pub plusesThen : ℕ → ℕ → List ℕ
@@ -45,13 +45,13 @@ dataByteIf false false p = quiet p
 unfoldable pub dataByte : AtProcessor → ℕ → ℕ → Fed
 dataByte p byte room = dataByteIf (withheld p byte) (ltb (pluses p) room) p
 
--- with three held and idle >= 1 s they vanish, idle zero, command mode
+-- with three held and idle >= the guard time they vanish, idle zero, command mode
 abbrev pub escapedIf : Bool → AtProcessor → AtProcessor
 escapedIf true p = withMode true (withEscape 0 0 p)
 escapedIf false p = p
 
 unfoldable pub escaped : AtProcessor → AtProcessor
-escaped p = escapedIf (eqb (pluses p) 3 && leb guardTime (p .idle)) p
+escaped p = escapedIf (eqb (pluses p) 3 && leb (guardTime p) (p .idle)) p
 
 -- a lapse in this mode adds to idle
 abbrev pub waitedIf : Bool → AtProcessor → ℕ → AtProcessor

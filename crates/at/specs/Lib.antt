@@ -5,3 +5,4 @@ pub mod Command
 pub mod Escape
 pub mod Carrier
 pub mod At
+pub mod Before

@@ -13,12 +13,15 @@ ghost use Rattle.ascii.specs.Front.{put};
 ghost use Rattle.at.specs.Processor.{fresh, sound, online, unseen, added};
 ghost use Rattle.at.specs.Answer.{outcome, quiet};
 ghost use Rattle.at.specs.Command.{executed};
-ghost use Rattle.at.specs.Escape.{withheld, plusesThen, released, dataByte, escaped, waited};
+ghost use Rattle.at.specs.Escape.{guardTime, withheld, plusesThen, released, dataByte, escaped, waited};
 ghost use Rattle.at.specs.Carrier.{downFor, polled};
 ghost use Rattle.at.specs.At.{ended, commandByte, typedByte, sent, lapse, forcedData};
 
-// 1 s: the silence before and after an escape, and the longest pause inside one.
-const GUARD_TIME: u64 = 1_000_000_000;
+// 20 ms: what S12 counts.
+const S12_UNIT: u64 = 20_000_000;
+
+// S12 when fresh and after ATZ: a second.
+const FRESH_S12: u8 = 50;
 
 // 700 ms: a carrier that is away for so long is lost.
 const DCD_HOLD_TIME: u64 = 700_000_000;
@@ -45,6 +48,8 @@ pub struct AtProcessor {
     pub carrier_up: bool,
     // Nanoseconds since a carrier that was seen went away.
     pub carrier_down_for: u64,
+    // The guard time of an escape, in units of 20 ms.
+    pub s12: u8,
 }
 
 // The answer to a command line or a lapse of time.
@@ -88,6 +93,7 @@ impl AtProcessor {
             plus_count: 0,
             carrier_up: false,
             carrier_down_for: 0,
+            s12: FRESH_S12,
         }
     }
 
@@ -134,11 +140,20 @@ impl AtProcessor {
         AtProcessor { idle, ..self }.complete_escape()
     }
 
+    // The silence before and after an escape, and the longest pause inside one.
+    fn guard_time(self) -> u64
+        ensures { λ r. ⌜ r ≡ guardTime self ⌝ }
+    {
+        let units = self.s12 as u64;
+        units * S12_UNIT
+    }
+
     // The three pluses were the signal and no data: they are not sent.
     fn complete_escape(self) -> Self
         ensures { λ r. ⌜ r ≡ escaped self ⌝ }
     {
-        if (self.plus_count == 3) & (self.idle >= GUARD_TIME) {
+        let guard = self.guard_time();
+        if (self.plus_count == 3) & (self.idle >= guard) {
             return AtProcessor {
                 in_command_mode: true,
                 idle: 0,
@@ -243,6 +258,7 @@ impl AtProcessor {
                 let reset = AtProcessor {
                     idle: 0,
                     plus_count: 0,
+                    s12: FRESH_S12,
                     ..self
                 };
                 reset.gives(Reply::One(Code::Ok), Control::Nothing)
@@ -260,6 +276,11 @@ impl AtProcessor {
             Command::Atdt => self.forget_carrier()
                 .go_online()
                 .gives(Reply::One(Code::Ok), Control::Dial),
+            Command::AskS12 => self.gives(Reply::Two(Code::S12, Code::Ok), Control::Nothing),
+            Command::SetS12(n) => AtProcessor { s12: n, ..self }.gives(
+                Reply::One(Code::Ok),
+                Control::Nothing,
+            ),
             Command::Unknown => self.gives(Reply::One(Code::Error), Control::Nothing),
         }
     }
@@ -359,9 +380,10 @@ impl AtProcessor {
     fn continues_run(self, byte: u8) -> bool
         ensures { λ r. ⌜ r ≡ withheld self byte ⌝ }
     {
+        let guard = self.guard_time();
         (byte == b'+')
-            & (((self.plus_count == 0) & (self.idle >= GUARD_TIME))
-                | (((self.plus_count == 1) | (self.plus_count == 2)) & (self.idle <= GUARD_TIME)))
+            & (((self.plus_count == 0) & (self.idle >= guard))
+                | (((self.plus_count == 1) | (self.plus_count == 2)) & (self.idle <= guard)))
     }
 }
 

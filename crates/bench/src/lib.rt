@@ -134,7 +134,7 @@ pub extern "C" fn bench_bytes(rate: u32, digits: &[u8], skip: usize, turns: u64)
 pub extern "C" fn bench_strings(rate: u32, digits: &[u8], skip: usize, turns: u64) -> u64 {
     let mut s = played(rate, digits, skip);
     let mut outbox = [0u8; 44];
-    let mut codes = [0u8; 22];
+    let mut codes = [0u8; 33];
     let mut sent: usize = 0;
     let mut i: u64 = 0;
     while i < turns {

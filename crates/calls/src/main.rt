@@ -25,20 +25,24 @@ fn main() {
 
 // Each code in a buffer with room for all, then one byte short.
 fn replies() {
-    tried::reply(0, 28);
-    tried::reply(1, 28);
-    tried::reply(1, 1);
-    tried::reply(2, 28);
-    tried::reply(2, 10);
-    tried::reply(3, 28);
-    tried::reply(3, 9);
-    tried::reply(4, 28);
-    tried::reply(4, 4);
-    tried::reply(5, 26);
-    tried::reply(5, 25);
-    tried::reply(6, 28);
-    tried::reply(7, 28);
-    tried::reply(8, 28);
+    tried::reply(0, 50, 28);
+    tried::reply(1, 50, 28);
+    tried::reply(1, 50, 1);
+    tried::reply(2, 50, 28);
+    tried::reply(2, 50, 10);
+    tried::reply(3, 50, 28);
+    tried::reply(3, 50, 9);
+    tried::reply(4, 50, 28);
+    tried::reply(4, 50, 4);
+    tried::reply(5, 50, 26);
+    tried::reply(5, 50, 25);
+    tried::reply(6, 50, 28);
+    tried::reply(6, 0, 3);
+    tried::reply(6, 7, 28);
+    tried::reply(6, 255, 28);
+    tried::reply(6, 255, 2);
+    tried::reply(7, 50, 28);
+    tried::reply(8, 50, 28);
 }
 
 fn cues() {
@@ -57,18 +61,20 @@ fn strings() {
     let long = [b'1'; 257];
     let set = sets::fresh(8000);
     tried::string(b"no string", set, b"", 0, 0);
-    tried::string(b"string of 2", set, b"A\r", 8, 4);
-    tried::string(b"string of 4", set, b"ATH\r", 16, 8);
-    tried::string(b"string after three pluses", sets::pluses(3), b"+x", 8, 4);
-    tried::string(b"string and an outbox of 7", set, b"A\r", 7, 4);
-    tried::string(b"string and 3 codes", set, b"A\r", 8, 3);
-    tried::string(b"string of 257", set, &long, 16, 8);
+    tried::string(b"string of 2", set, b"A\r", 8, 6);
+    tried::string(b"string of 4", set, b"ATH\r", 16, 12);
+    tried::string(b"string after three pluses", sets::pluses(3), b"+x", 8, 6);
+    tried::string(b"string and an outbox of 7", set, b"A\r", 7, 6);
+    tried::string(b"string and 5 codes", set, b"A\r", 8, 5);
+    tried::string(b"string that sets S12", sets::s12_line(7), b"5\r", 8, 6);
+    tried::string(b"string that asks for S12", sets::s12_line(5), b"?\r", 8, 6);
+    tried::string(b"string of 257", set, &long, 16, 12);
     tried::string(
         b"string of 257 for a line of 81",
         sets::line(81, false),
         &long,
         16,
-        8,
+        12,
     );
     tried::string(
         b"no string for a line of 81",

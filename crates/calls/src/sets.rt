@@ -55,6 +55,29 @@ pub fn line(len: usize, ran_over: bool) -> Set {
     })
 }
 
+// With an S12 of 9, and so many bytes of ATS12=2 typed.
+pub fn s12_line(len: usize) -> Set {
+    let processor = AtProcessor::new();
+    let mut bytes = [0u8; 80];
+    bytes[0] = b'A';
+    bytes[1] = b'T';
+    bytes[2] = b'S';
+    bytes[3] = b'1';
+    bytes[4] = b'2';
+    bytes[5] = b'=';
+    bytes[6] = b'2';
+    let cmd_buf = Line {
+        bytes,
+        len,
+        ran_over: false,
+    };
+    with_processor(AtProcessor {
+        cmd_buf,
+        s12: 9,
+        ..processor
+    })
+}
+
 // In data mode.
 pub fn pluses(plus_count: u8) -> Set {
     let processor = AtProcessor::new();

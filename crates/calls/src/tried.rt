@@ -12,19 +12,21 @@ pub fn calls(name: &[u8], set: Set) {
     k = put_forced(&mut page, k, set);
     k = put_filled(&mut page, k, set);
     k = put_readers(&mut page, k, set);
+    k = put_number(&mut page, k, b" s12 ", set.s12() as u64);
     k = put_cue(&mut page, k, set, 0);
     end(&mut page, k);
 }
 
 // The buffer's first `n` bytes are lent.
-pub(crate) fn reply(code: u8, n: usize)
+pub(crate) fn reply(code: u8, s12: u8, n: usize)
     requires { ⌜ n ≤ 28 ⌝ }
 {
     let mut page = [0u8; 128];
     let mut buffer = [b'.'; 28];
     let from: usize = 0;
-    let length = reply::write_reply(code, &mut buffer[from..n]);
+    let length = reply::write_reply(code, s12, &mut buffer[from..n]);
     let mut k = put_number(&mut page, 0, b"reply ", code as u64);
+    k = put_number(&mut page, k, b" s12 ", s12 as u64);
     k = put_number(&mut page, k, b" room ", n as u64);
     k = put_number(&mut page, k, b" length ", length as u64);
     k = put_buffer(&mut page, k, &buffer);
@@ -73,7 +75,7 @@ pub(crate) fn typed(name: &[u8], set: Set, byte: u8, n: usize)
 // The outbox's first `n` bytes and the code buffer's first `m` are lent.
 pub(crate) fn string(name: &[u8], set: Set, string: &[u8], n: usize, m: usize)
     requires { ⌜ n ≤ 16 ⌝ }
-    requires { ⌜ m ≤ 8 ⌝ }
+    requires { ⌜ m ≤ 12 ⌝ }
 {
     let mut page = [0u8; 256];
     let mut k = text::put(&mut page, 0, name);
@@ -112,10 +114,10 @@ fn put_typed(page: &mut [u8], at: usize, set: Set, byte: u8, n: usize) -> usize
 
 fn put_string(page: &mut [u8], at: usize, set: Set, string: &[u8], n: usize, m: usize) -> usize
     requires { ⌜ n ≤ 16 ⌝ }
-    requires { ⌜ m ≤ 8 ⌝ }
+    requires { ⌜ m ≤ 12 ⌝ }
 {
     let mut outbox = [b'.'; 16];
-    let mut codes = [b'.'; 8];
+    let mut codes = [b'.'; 12];
     let from: usize = 0;
     let answer = set.feed_all(string, false, &mut outbox[from..n], &mut codes[from..m]);
     let refusal = answer.refusal;
@@ -129,10 +131,11 @@ fn put_sends(page: &mut [u8], at: usize, outbox: &[u8; 16]) -> usize {
     put_word(page, at, outbox)
 }
 
-fn put_codes(page: &mut [u8], at: usize, codes: [u8; 8]) -> usize {
+fn put_codes(page: &mut [u8], at: usize, codes: [u8; 12]) -> usize {
     let k = text::put(page, at, b" codes ");
     let l = put_four(page, k, codes[0], codes[1], codes[2], codes[3]);
-    put_four(page, l, codes[4], codes[5], codes[6], codes[7])
+    let m = put_four(page, l, codes[4], codes[5], codes[6], codes[7]);
+    put_four(page, m, codes[8], codes[9], codes[10], codes[11])
 }
 
 fn put_four(page: &mut [u8], at: usize, a: u8, b: u8, c: u8, d: u8) -> usize {

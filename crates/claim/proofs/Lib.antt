@@ -8,3 +8,4 @@ pub mod Reading
 pub mod Lists
 pub mod Worked
 pub mod Cases
+pub mod Before

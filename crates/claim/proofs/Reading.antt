@@ -25,6 +25,7 @@ use Rattle.set.specs.Event.{Event, Unchanged, StringEvent, StringUnchanged}
 use Rattle.claim.specs.Trace.{Trace, setAfter}
 use Rattle.claim.specs.Claim.{SinceDial, notCalled, notedFill, noted, AllAtMost, NeverBack, Reports, Answered, AllAnswered, bookAfter, sinceAfter, Played}
 use Rattle.claim.specs.Strings.{Step, single, string, setOf, History, lastSet, causeOf, singles, sentIn, codesIn, allSingles, callsOf, allCalls, StringAnswered, StepAnswered, AllStepsAnswered, Claim}
+use Rattle.claim.specs.Before.{NoS12Line, AllAsBefore}
 use Rattle.claim.proofs.Joined.{book-joined}
 use Rattle.claim.proofs.start.Reads as start
 
@@ -54,7 +55,11 @@ module _ (rate : ℕ) (answer : Made) (d : start.Learnt tt (rate, tt) answer (ra
   starts = d .0
 
   claim : Claim s
-  claim = d .1
+  claim = d .1 .0
+
+  -- 02, E6: the first call of a list that holds no S12 line is answered as before S12, and leaves 50; and so on, call by call
+  pub without-s12 : (xs : List Step) → History s xs → NoS12Line s (allSingles s xs) → AllAsBefore s (allSingles s xs)
+  without-s12 = d .1 .1
 
   module _ (xs : List Step) (e : Event) (later : List Step) (t : History s (xs ++ single e ∷ later)) where
     abbrev before : Book

@@ -51,7 +51,7 @@ singly-sent s (byte ∷ bytes) carrier = ap (λ (l : List ℕ). putBy s byte car
 singly-codes : (s : Set) (bytes : List ℕ) (carrier : Bool) → codesBy s bytes carrier ≡ codesIn (typedSingly s bytes carrier)
 unfolding codesBy
 singly-codes s [] carrier = refl
-singly-codes s (byte ∷ bytes) carrier = ap (λ (l : List ℕ). firstOf (set.typed s byte carrier 4 .reply) ∷ secondOf (set.typed s byte carrier 4 .reply) ∷ l) (singly-codes (set.typed s byte carrier 4 .set) bytes carrier)
+singly-codes s (byte ∷ bytes) carrier = ap (λ (l : List ℕ). firstOf (set.typed s byte carrier 4 .reply) ∷ secondOf (set.typed s byte carrier 4 .reply) ∷ set.s12Of (set.typed s byte carrier 4 .set) ∷ l) (singly-codes (set.typed s byte carrier 4 .set) bytes carrier)
 
 -- what a string leaves, by its cause
 module _ (s : Set) (bytes : List ℕ) (carrier : Bool) where
@@ -86,7 +86,7 @@ counts s ok x (typed-all κs bytes carrier out codes left codesLeft answer asked
     counts-by (κs .0, tt) s (now bytes) carrier (accepted cause) (answer .set) (rw ok at (ap (λ (a : TypedAll). a .set) told))
 
 never-6 : (n room places : ℕ) → refusalNumber (causeByLengths true n room places) ≡ 6 → ⊥
-never-6 n room places six = go (ltb 256 n) (ltb room (4 * n) || ltb places (2 * n)) six
+never-6 n room places six = go (ltb 256 n) (ltb room (4 * n) || ltb places (3 * n)) six
   where
     go : (long short : Bool) → refusalNumber (causeOfString true long short) ≡ 6 → ⊥
     go true short e = omega arith

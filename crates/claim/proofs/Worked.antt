@@ -45,7 +45,7 @@ use Rattle.claim.proofs.Lists.{zeros, Act, single, string, allAsked, ev
 
 -- ATDT12 and CR, as a string and as what it counts as
 abbrev stringOf : String → Act
-stringOf text = string (ascii text) false (replicate (4 * length (ascii text)) 0) (replicate (2 * length (ascii text)) 0)
+stringOf text = string (ascii text) false (replicate (4 * length (ascii text)) 0) (replicate (3 * length (ascii text)) 0)
 
 abbrev typingsOf : String → List Call
 typingsOf text = typings (ascii text) false

@@ -60,14 +60,14 @@ abbrev pub singles : Set → Step → List Event
 singles s (single e) = e ∷ []
 singles s (string e) = ifAccepted (causeOf e) (typedSingly s (e .bytes) (e .carrier)) []
 
--- the bytes that single calls sent, in order, and their codes, two a call
+-- the bytes that single calls sent, in order; and three places a call: its codes and, 02, E6, the S12 after it
 abbrev pub sentIn : List Event → List ℕ
 sentIn [] = []
 sentIn (e ∷ es) = take (e .sent) (e .left .bytes) ++ sentIn es
 
 abbrev pub codesIn : List Event → List ℕ
 codesIn [] = []
-codesIn (e ∷ es) = firstOf (e .reply) ∷ secondOf (e .reply) ∷ codesIn es
+codesIn (e ∷ es) = firstOf (e .reply) ∷ secondOf (e .reply) ∷ set.s12Of (e .set) ∷ codesIn es
 
 abbrev pub allSingles : Set → List Step → List Event
 allSingles s xs = expand.allSingles setOf singles s xs

@@ -4,3 +4,7 @@ pub mod Begins
 pub mod Pushed
 pub mod Cases
 pub mod Overlong
+pub mod Digits
+pub mod Part
+pub mod Setting
+pub mod Forms

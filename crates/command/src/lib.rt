@@ -1,11 +1,12 @@
 // The command line: at.rs's `cmd_buf` as an array with a length, the line uppercased, and the
 // command that it is.
 ghost use mathlib.Core.Path.{_≡_};
+ghost use mathlib.Core.Bool.{cond};
 ghost use Prim.Native.Nat.{_≤_, _<_};
-ghost use lib.ListN.{length};
+ghost use lib.ListN.{length, drop};
 ghost use Rattle.command.specs.Line.{emptyLine, typed, soundLine, pushed, uppercased};
 ghost use Rattle.command.specs.Command as commands;
-ghost use Rattle.command.specs.Command.{begins, is, commandOf};
+ghost use Rattle.command.specs.Command.{begins, is, valueFrom, upTo255, settingOf, commandOf};
 
 // A command line: the first `len` of its bytes, and whether more were typed than it holds.
 pub struct Line {
@@ -14,7 +15,7 @@ pub struct Line {
     pub ran_over: bool,
 }
 
-// A command for each arm of at.rs's `execute`.
+// A command for each arm of at.rs's `execute`, and the two of S12.
 pub enum Command {
     At,
     Atz,
@@ -23,6 +24,8 @@ pub enum Command {
     Ath,
     Ato,
     Atdt,
+    AskS12,
+    SetS12(u8),
     Unknown,
 }
 
@@ -107,11 +110,35 @@ impl Line {
         self.starts_with(text)
     }
 
-    // Which command an uppercased line is: at.rs's arms, from the last up. One that ran over is none.
+    // What stands after ATS12=: one to three digits up to 255 are a setting.
+    fn setting(self) -> Command
+        ensures { λ r. ⌜ r ≡ settingOf (drop 6 (typed self)) ⌝ }
+    {
+        let bytes = self.bytes;
+        let len = self.len;
+        if (len < 7) | (len > 9) {
+            return Command::Unknown;
+        }
+        let from: usize = 6;
+        let n = decimal(&bytes[from..len]);
+        if n > 255 {
+            return Command::Unknown;
+        }
+        Command::SetS12(n as u8)
+    }
+
+    // Which command an uppercased line is: S12's lines and at.rs's arms, from the last up. One that
+    // ran over is none.
     pub fn command(self) -> Command
         ensures { λ r. ⌜ r ≡ commandOf self ⌝ }
     {
-        let rest = read(self.starts_with(b"ATDT"), Command::Atdt, Command::Unknown);
+        let rest = read(
+            self.starts_with(b"ATS12="),
+            self.setting(),
+            Command::Unknown,
+        );
+        let rest = read(self.equals(b"ATS12?"), Command::AskS12, rest);
+        let rest = read(self.starts_with(b"ATDT"), Command::Atdt, rest);
         let rest = read(self.equals(b"ATO0"), Command::Ato, rest);
         let rest = read(self.equals(b"ATO"), Command::Ato, rest);
         let rest = read(self.equals(b"ATH0"), Command::Ath, rest);
@@ -122,6 +149,28 @@ impl Line {
         let rest = read(self.equals(b"AT"), Command::At, rest);
         read(self.ran_over, Command::Unknown, rest)
     }
+}
+
+// The number that decimal digits up to 255 are; of other bytes 256.
+fn decimal(bytes: &[u8]) -> u16
+    ensures { λ r. ⌜ r ≡ cond (upTo255 (now (bytes .entry))) (valueFrom 0 (now (bytes .entry))) 256 ⌝ }
+{
+    let mut value: u16 = 0;
+    let mut i = 0;
+    while i < bytes.len() {
+        let b = bytes[i];
+        if (b < b'0') | (b > b'9') {
+            return 256;
+        }
+        let digit = (b - b'0') as u16;
+        let more = value * 10 + digit;
+        if more > 255 {
+            return 256;
+        }
+        value = more;
+        i += 1;
+    }
+    value
 }
 
 // This command if the test holds, else what the arms below gave.

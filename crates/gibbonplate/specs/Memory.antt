@@ -19,13 +19,13 @@ use Rattle.session.specs.declared.SessionState.{SessionState}
 use Rattle.session.specs.declared.SessionState.the-variants.{Idle, Dialling, Answering, Connected}
 use Rattle.session.specs.Session.{stateNumber}
 use Rattle.set.specs.declared.Set.{Set}
-use Rattle.set.specs.Set.{freshSet}
+use Rattle.set.specs.Set.{s12Of, freshSet}
 use Rattle.gibbonplate.specs.declared.plain.PlainStage.{PlainStage}
 
 -- longs: the line's length, the idle time, the down time, the number of digits, the stage's own number
 -- counts: the rate, m, the stage's samples or bits done, Cj's zeros
 -- reals: two oscillators
--- marks: the mode, pluses held, the carrier-seen mark, the state, the shown stage; the stage, its ring, whether in tone; whether the line ran over
+-- marks: the mode, pluses held, the carrier-seen mark, the state, the shown stage; the stage, its ring, whether in tone; whether the line ran over; S12
 -- line: its 80 bytes; keys: the 76 places of the digits
 pub record Memory : Type 0 where
   pub longs : List ℕ
@@ -108,6 +108,7 @@ marksOf s =
     ∷ plain (s .session .stage) .ring
     ∷ flag (plain (s .session .stage) .tone)
     ∷ flag (ranOver (lineOf (s .processor)))
+    ∷ s12Of s
     ∷ []
 
 unfoldable pub stored : Set → Memory
@@ -163,6 +164,7 @@ processorIn longs marks line =
       «plus_count» = getD marks 1 0;
       «carrier_up» = eqb (getD marks 2 0) 1;
       «carrier_down_for» = getD longs 2 0;
+      s12 = getD marks 9 0;
     }
 
 unfoldable pub setIn : Memory → Set

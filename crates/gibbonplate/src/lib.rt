@@ -278,6 +278,21 @@ pub extern "C" fn gibbonplate_m_in(
 }
 
 #[no_mangle]
+pub extern "C" fn gibbonplate_s12_in(
+    longs: &[u64; 5],
+    counts: &[u32; 4],
+    reals: &[f64; 6],
+    marks: &[u8; MARKS],
+    line: &[u8; 80],
+    keys: &[u8; 76],
+) -> u8
+    ensures { λ r. ⌜ r ≡ loaded (memory (now (longs .entry)) (now (counts .entry)) (now (reals .entry)) (now (marks .entry)) (now (line .entry)) (now (keys .entry))) .processor .s12 ⌝ }
+{
+    let set = memory::load(longs, counts, reals, marks, line, keys);
+    set.s12()
+}
+
+#[no_mangle]
 pub extern "C" fn gibbonplate_rate_in(
     longs: &[u64; 5],
     counts: &[u32; 4],
@@ -313,11 +328,11 @@ pub extern "C" fn gibbonplate_digits_in(
 }
 
 #[no_mangle]
-pub extern "C" fn gibbonplate_write_reply(code: u8, out: &mut [u8]) -> usize
-    ensures { λ r. ⌜ r ≡ putLength (textOf code) (length (now (out .entry))) ⌝ }
-    ensures { λ _. ⌜ now (out .exit) ≡ put (textOf code) (now (out .entry)) ⌝ }
+pub extern "C" fn gibbonplate_write_reply(code: u8, s12: u8, out: &mut [u8]) -> usize
+    ensures { λ r. ⌜ r ≡ putLength (textOf code s12) (length (now (out .entry))) ⌝ }
+    ensures { λ _. ⌜ now (out .exit) ≡ put (textOf code s12) (now (out .entry)) ⌝ }
 {
-    reply::write_reply(code, out)
+    reply::write_reply(code, s12, out)
 }
 
 // The length of a call before the call. It needs no set.

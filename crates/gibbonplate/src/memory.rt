@@ -14,7 +14,7 @@ ghost use Rattle.set.specs.Set.{freshSet};
 ghost use Rattle.gibbonplate.specs.Memory.{memory, flag, stored, holdsSet, tooManyBits, plainIn, processorIn, setIn, loaded, kept};
 
 // How many marks a set has.
-pub const MARKS: usize = 9;
+pub const MARKS: usize = 10;
 
 fn flag(on: bool) -> u8
     ensures { λ r. ⌜ r ≡ flag on ⌝ }
@@ -89,6 +89,7 @@ fn processor_in(longs: &[u64; 5], marks: &[u8; MARKS], line: &[u8; 80]) -> AtPro
         plus_count: marks[1],
         carrier_up: marks[2] == 1,
         carrier_down_for: longs[2],
+        s12: marks[9],
     }
 }
 
@@ -182,6 +183,7 @@ pub fn store(
         x.ring,
         flag(x.tone),
         flag(cmd_buf.ran_over),
+        p.s12,
     ];
     *line = bytes;
     *keys = places;

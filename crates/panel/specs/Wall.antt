@@ -69,9 +69,9 @@ filledShown length a = shownOf (a .set) (refusalNumber (a .refusal)) reply.None 
 abbrev pub cuedShown : Set → Cued → Shown
 cuedShown s a = shownOf s (cueRefusalNumber (a .refusal)) reply.None (second.Cued (a .sample)) true
 
--- a string has no codes of its own: those of its n bytes fill two places each, where it is not declined
+-- a string has no codes of its own: those of its n bytes, and S12, fill three places each, where it is not declined
 abbrev pub stringShown : ℕ → TypedAll → Shown
-stringShown n a = shownOf (a .set) (refusalNumber (a .refusal)) reply.None (second.String (a .sent) (ifAccepted (a .refusal) (2 * n) 0)) true
+stringShown n a = shownOf (a .set) (refusalNumber (a .refusal)) reply.None (second.String (a .sent) (ifAccepted (a .refusal) (3 * n) 0)) true
 
 -- a call that asks for more room than there is counts as another line: no line that is read does
 abbrev pub ifRoom : Bool → Set → Shown → Shown

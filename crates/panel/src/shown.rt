@@ -4,8 +4,8 @@ use reply::Reply;
 use report::Report;
 use set::Set;
 ghost use mathlib.Core.Path.{_≡_};
-ghost use Prim.Native.Nat.{_*_};
-ghost use mathlib.Core.Bool.{_&&_};
+ghost use Prim.Native.Nat.{_*_, _≤_};
+ghost use mathlib.Core.Bool.{true, _&&_};
 ghost use lib.Dec.{leb};
 ghost use lib.ListN.{length};
 ghost use Rattle.text.specs.Text.{pageOf, addOf};
@@ -219,12 +219,13 @@ fn feed_all(set: Set, string: &[u8], carrier: bool, outbox: &mut [u8], codes: &m
     )
 }
 
-// Two places a byte.
+// Three places a byte. A string that was accepted has at most 256.
 fn used(accepted: bool, string: &[u8]) -> usize
-    ensures { λ r. ⌜ r ≡ either accepted (2 * length (now (string .entry))) 0 ⌝ }
+    requires { ⌜ (accepted ≡ true → length (now string) ≤ 256) ⌝ }
+    ensures { λ r. ⌜ r ≡ either accepted (3 * length (now (string .entry))) 0 ⌝ }
 {
     if accepted {
-        return 2 * string.len();
+        return 3 * string.len();
     }
     0
 }

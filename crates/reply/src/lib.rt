@@ -4,7 +4,7 @@ ghost use mathlib.Core.Path.{_≡_};
 ghost use lib.ListN.{length};
 ghost use Rattle.reply.specs.Codes.{numberOf, firstOf, secondOf};
 ghost use Rattle.ascii.specs.Front.{put, putLength};
-ghost use Rattle.reply.specs.Texts.{textOf};
+ghost use Rattle.reply.specs.Texts.{threeDigits, textOf};
 
 pub enum Code {
     Ok,
@@ -12,6 +12,8 @@ pub enum Code {
     NoCarrier,
     Error,
     Identification,
+    // The S12 that the set then holds.
+    S12,
 }
 
 // Rust's `Option<Response>`: no command gives more than two lines.
@@ -31,6 +33,7 @@ impl Code {
             Code::NoCarrier => 3,
             Code::Error => 4,
             Code::Identification => 5,
+            Code::S12 => 6,
         }
     }
 }
@@ -59,11 +62,21 @@ impl Reply {
     }
 }
 
-// Writes the code's text at the front of `out` and answers its length. A short `out` or another
-// number gives 0 and leaves `out` as it was.
-pub fn write_reply(code: u8, out: &mut [u8]) -> usize
-    ensures { λ r. ⌜ r ≡ putLength (textOf code) (length (now (out .entry))) ⌝ }
-    ensures { λ _. ⌜ now (out .exit) ≡ put (textOf code) (now (out .entry)) ⌝ }
+// Writes S12 in three digits.
+fn write_s12(s12: u8, out: &mut [u8]) -> usize
+    ensures { λ r. ⌜ r ≡ putLength (threeDigits s12) (length (now (out .entry))) ⌝ }
+    ensures { λ _. ⌜ now (out .exit) ≡ put (threeDigits s12) (now (out .entry)) ⌝ }
+{
+    let text = [b'0' + s12 / 100, b'0' + s12 / 10 % 10, b'0' + s12 % 10];
+    let from: usize = 0;
+    ascii::put_front(&text[from..], out)
+}
+
+// Writes the code's text at the front of `out` and answers its length; 6 stands for `s12`. A short
+// `out` or another number gives 0 and leaves `out` as it was.
+pub fn write_reply(code: u8, s12: u8, out: &mut [u8]) -> usize
+    ensures { λ r. ⌜ r ≡ putLength (textOf code s12) (length (now (out .entry))) ⌝ }
+    ensures { λ _. ⌜ now (out .exit) ≡ put (textOf code s12) (now (out .entry)) ⌝ }
 {
     match code {
         1 => ascii::put_front(b"OK", out),
@@ -71,6 +84,7 @@ pub fn write_reply(code: u8, out: &mut [u8]) -> usize
         3 => ascii::put_front(b"NO CARRIER", out),
         4 => ascii::put_front(b"ERROR", out),
         5 => ascii::put_front(b"modem-core Bell 103 v1.0.0", out),
+        6 => write_s12(s12, out),
         _ => 0,
     }
 }

@@ -82,11 +82,11 @@ unfolding sound soundState stateOk digitsOk allKeys rateOk processor.sound sound
 connected-65537 = refl
 
 -- 02, E3: 256 bytes with just their room, and no byte with none; 8, 257 bytes, before 9; 9, a byte of outbox or a code too few
-pub string-edges : (refusalNumber (stringCause (freshSet 8000) 256 1024 512) ≡ 0)
+pub string-edges : (refusalNumber (stringCause (freshSet 8000) 256 1024 768) ≡ 0)
     × (refusalNumber (stringCause (freshSet 8000) 0 0 0) ≡ 0)
-    × (refusalNumber (stringCause (freshSet 8000) 257 1028 514) ≡ 8)
+    × (refusalNumber (stringCause (freshSet 8000) 257 1028 771) ≡ 8)
     × (refusalNumber (stringCause (freshSet 8000) 257 0 0) ≡ 8)
-    × (refusalNumber (stringCause (freshSet 8000) 256 1023 512) ≡ 9)
-    × (refusalNumber (stringCause (freshSet 8000) 256 1024 511) ≡ 9)
+    × (refusalNumber (stringCause (freshSet 8000) 256 1023 768) ≡ 9)
+    × (refusalNumber (stringCause (freshSet 8000) 256 1024 767) ≡ 9)
 unfolding sound soundState stateOk digitsOk allKeys rateOk idle processor.sound soundLine stringCause
 string-edges = (refl, refl, refl, refl, refl, refl)

@@ -8,3 +8,4 @@ pub mod Answers
 pub mod Follows
 pub mod Steps
 pub mod Cases
+pub mod Before

@@ -23,7 +23,7 @@ use Rattle.set.specs.declared.Typed.{Typed}
 use Rattle.set.specs.declared.Refusal.the-variants.{Accepted}
 use Rattle.set.specs.Refusals.{causeOfString, accepted}
 use Rattle.set.specs.Sound.{sound}
-use Rattle.set.specs.Set.{moved, typingCause, byteTyped, typed, outbox}
+use Rattle.set.specs.Set.{s12Of, moved, typingCause, byteTyped, typed, outbox}
 use Rattle.set.specs.String.{four, setBy, putBy, sentBy, codesBy, stringCause, atFront}
 use Rattle.set.proofs.Ranges.{ranges}
 use Rattle.set.proofs.Soundness.{byte-sound}
@@ -95,16 +95,16 @@ module _ (carrier : Bool) where
   sentBy-more s (b ∷ bytes) byte = rw (sentBy-more (typed s b carrier 4 .set) bytes byte) (sym (append-assoc (putBy s b carrier) _ _))
 
   abbrev codesOf : Typed → List ℕ
-  codesOf t = firstOf (t .reply) ∷ secondOf (t .reply) ∷ []
+  codesOf t = firstOf (t .reply) ∷ secondOf (t .reply) ∷ s12Of (t .set) ∷ []
 
   codesBy-more : (s : Set) (bytes : List ℕ) (byte : ℕ)
       → codesBy s (bytes ++ (byte ∷ [])) carrier ≡ codesBy s bytes carrier ++ codesOf (typed (setBy s bytes carrier) byte carrier 4)
   unfolding setBy codesBy
   codesBy-more s [] byte = refl
   codesBy-more s (b ∷ bytes) byte =
-      ap (λ (rest : List ℕ). firstOf (typed s b carrier 4 .reply) ∷ secondOf (typed s b carrier 4 .reply) ∷ rest) (codesBy-more (typed s b carrier 4 .set) bytes byte)
+      ap (λ (rest : List ℕ). firstOf (typed s b carrier 4 .reply) ∷ secondOf (typed s b carrier 4 .reply) ∷ s12Of (typed s b carrier 4 .set) ∷ rest) (codesBy-more (typed s b carrier 4 .set) bytes byte)
 
-  pub codes-length : (s : Set) (bytes : List ℕ) → length (codesBy s bytes carrier) ≡ 2 * length bytes
+  pub codes-length : (s : Set) (bytes : List ℕ) → length (codesBy s bytes carrier) ≡ 3 * length bytes
   unfolding codesBy
   codes-length s [] = refl
   codes-length s (b ∷ bytes) = omega (arith, codes-length (typed s b carrier 4 .set) bytes)
@@ -114,13 +114,13 @@ pub record Fits (s : Set) (n room places : ℕ) : Type 0 where
   pub sound : sound s ≡ true
   pub few : n ≤ 256
   pub outbox : 4 * n ≤ room
-  pub codes : 2 * n ≤ places
+  pub codes : 3 * n ≤ places
 
 pub fits : (s : Set) (n room places : ℕ) → accepted (stringCause s n room places) ≡ true → Fits s n room places
 unfolding stringCause accepted
-fits s n room places e = go (sound s) (ltb 256 n) (ltb room (4 * n)) (ltb places (2 * n)) refl refl refl refl e
+fits s n room places e = go (sound s) (ltb 256 n) (ltb room (4 * n)) (ltb places (3 * n)) refl refl refl refl e
   where
-    go : (ok long short short₂ : Bool) → sound s ≡ ok → ltb 256 n ≡ long → ltb room (4 * n) ≡ short → ltb places (2 * n) ≡ short₂
+    go : (ok long short short₂ : Bool) → sound s ≡ ok → ltb 256 n ≡ long → ltb room (4 * n) ≡ short → ltb places (3 * n) ≡ short₂
         → accepted (causeOfString ok long (short || short₂)) ≡ true → Fits s n room places
     go false long short short₂ o l r p e = absurd (true≢false (sym e))
     go true true short short₂ o l r p e = absurd (true≢false (sym e))
@@ -137,7 +137,7 @@ pub record Typing (s₀ : Set) (bytes : List ℕ) (carrier : Bool) (out₀ codes
   pub few : at ≤ 4 * i
   pub wrote : out ≡ sentBy s₀ (take i bytes) carrier ++ drop at out₀
   pub out-long : length out ≡ length out₀
-  pub coded : codes ≡ codesBy s₀ (take i bytes) carrier ++ drop (2 * i) codes₀
+  pub coded : codes ≡ codesBy s₀ (take i bytes) carrier ++ drop (3 * i) codes₀
   pub codes-long : length codes ≡ length codes₀
 
 module _ (s₀ : Set) (bytes : List ℕ) (carrier : Bool) (out₀ codes₀ : List ℕ) where
@@ -156,8 +156,15 @@ module _ (s₀ : Set) (bytes : List ℕ) (carrier : Bool) (out₀ codes₀ : Lis
       let long : length (front ++ (f ∷ [])) ≡ n + 1 = length-append front (f ∷ []) ∙ ap (λ (k : ℕ). k + 1) e in
       rw one (set-at (front ++ (f ∷ [])) y rest g (n + 1) long ∙ append-assoc front (f ∷ []) (g ∷ rest) ∙ sym (append-assoc front (f ∷ g ∷ []) rest))
 
+  three-set : (front rest : List ℕ) (n x y z f g h : ℕ) → length front ≡ n
+      → set (set (set (front ++ (x ∷ y ∷ z ∷ rest)) n f) (n + 1) g) (n + 2) h ≡ (front ++ (f ∷ g ∷ h ∷ [])) ++ rest
+  three-set front rest n x y z f g h e =
+      let long : length (front ++ (f ∷ g ∷ [])) ≡ n + 2 = length-append front (f ∷ g ∷ []) ∙ ap (λ (k : ℕ). k + 2) e in
+      rw (two-set front (z ∷ rest) n x y f g e)
+      (set-at (front ++ (f ∷ g ∷ [])) z rest h (n + 2) long ∙ append-assoc front (f ∷ g ∷ []) (h ∷ rest) ∙ sym (append-assoc front (f ∷ g ∷ h ∷ []) rest))
+
   module _ (s : Set) (out codes : List ℕ) (at i : ℕ) (T : Typing s₀ bytes carrier out₀ codes₀ s out codes at i)
-      (more : i < length bytes) (room : 4 * length bytes ≤ length out₀) (places : 2 * length bytes ≤ length codes₀) where
+      (more : i < length bytes) (room : 4 * length bytes ≤ length out₀) (places : 3 * length bytes ≤ length codes₀) where
     abbrev byte : ℕ
     byte = getD bytes i 0
 
@@ -199,25 +206,30 @@ module _ (s₀ : Set) (bytes : List ℕ) (carrier : Bool) (out₀ codes₀ : Lis
         ∙ codesBy-more carrier s₀ (take i bytes) byte
         ∙ ap (λ (x : Set). codesBy s₀ (take i bytes) carrier ++ codesOf carrier (typed x byte carrier 4)) (sym (T .set))
 
-    codes-so-far : length (codesBy s₀ (take i bytes) carrier) ≡ 2 * i
-    codes-so-far = codes-length carrier s₀ (take i bytes) ∙ ap (λ (n : ℕ). 2 * n) (length-take-le i bytes (T .within))
+    codes-so-far : length (codesBy s₀ (take i bytes) carrier) ≡ 3 * i
+    codes-so-far = codes-length carrier s₀ (take i bytes) ∙ ap (λ (n : ℕ). 3 * n) (length-take-le i bytes (T .within))
 
-    two-left : drop (2 * i) codes₀ ≡ getD codes₀ (2 * i) 0 ∷ getD codes₀ (suc (2 * i)) 0 ∷ drop (2 * (i + 1)) codes₀
-    two-left =
-        drop-cons codes₀ (2 * i) 0 (omega arith)
-        ∙ ap (λ (l : List ℕ). getD codes₀ (2 * i) 0 ∷ l) (drop-cons codes₀ (suc (2 * i)) 0 (omega arith))
-        ∙ ap (λ (n : ℕ). getD codes₀ (2 * i) 0 ∷ getD codes₀ (suc (2 * i)) 0 ∷ drop n codes₀) (next i)
+    abbrev place : ℕ → ℕ
+    place n = getD codes₀ n 0
+
+    three-left : drop (3 * i) codes₀ ≡ place (3 * i) ∷ place (suc (3 * i)) ∷ place (suc (suc (3 * i))) ∷ drop (3 * (i + 1)) codes₀
+    three-left =
+        drop-cons codes₀ (3 * i) 0 (omega arith)
+        ∙ ap (λ (l : List ℕ). place (3 * i) ∷ l) (drop-cons codes₀ (suc (3 * i)) 0 (omega arith))
+        ∙ ap (λ (l : List ℕ). place (3 * i) ∷ place (suc (3 * i)) ∷ l) (drop-cons codes₀ (suc (suc (3 * i))) 0 (omega arith))
+        ∙ ap (λ (n : ℕ). place (3 * i) ∷ place (suc (3 * i)) ∷ place (suc (suc (3 * i))) ∷ drop n codes₀) (next i)
       where
-        next : (i : ℕ) → suc (suc (2 * i)) ≡ 2 * (i + 1)
+        next : (i : ℕ) → suc (suc (suc (3 * i))) ≡ 3 * (i + 1)
         next i = omega arith
 
-    pub typing-again : (t : ByteTyped) (ys : List ℕ) (f g : ℕ)
+    pub typing-again : (t : ByteTyped) (ys : List ℕ) (f g h : ℕ)
         → t ≡ byteTyped s byte carrier (length part)
         → ys ≡ put here part
         → f ≡ firstOf (t .reply)
         → g ≡ secondOf (t .reply)
-        → Typing s₀ bytes carrier out₀ codes₀ (t .set) (take at out ++ (ys ++ drop (length out - at) (drop at out))) (set (set codes (2 * i) f) (2 * i + 1) g) (at + t .sent) (i + 1)
-    typing-again t ys f g e w ef eg =
+        → h ≡ s12Of (t .set)
+        → Typing s₀ bytes carrier out₀ codes₀ (t .set) (take at out ++ (ys ++ drop (length out - at) (drop at out))) (set (set (set codes (3 * i) f) (3 * i + 1) g) (3 * i + 2) h) (at + t .sent) (i + 1)
+    typing-again t ys f g h e w ef eg eh =
         let told : t ≡ byteTyped s byte carrier 4 = e ∙ taken-alike s (T .sound) byte carrier (length part) enough in
         let single : taking t ≡ typed s byte carrier 4 = ap taking told ∙ sym (typed-four s (T .sound) byte carrier) in
         let count : t .sent ≡ length here = ap (λ (x : ByteTyped). x .sent) told ∙ count-sent s (T .sound) byte carrier in
@@ -228,8 +240,8 @@ module _ (s₀ : Set) (bytes : List ℕ) (carrier : Bool) (out₀ codes₀ : Lis
         let wrote : ys ≡ atFront here (drop at out₀) = w ∙ ap (put here) (part-whole ∙ left-of) ∙ sent-first (s .processor) byte (drop at out₀) (good s (T .sound) byte carrier) long in
         let whole : take at out ++ (ys ++ drop (length out - at) (drop at out)) ≡ sentBy s₀ (take (i + 1) bytes) carrier ++ drop (at + t .sent) out₀ =
         rw (taken, none, wrote, append-nil, drop-drop, sent-all, append-assoc, count) in
-        let now-coded : codesBy s₀ (take i bytes) carrier ++ (f ∷ g ∷ []) ≡ codesBy s₀ (take (i + 1) bytes) carrier =
-        rw (ef, eg) (ap (λ (x : Typed). codesBy s₀ (take i bytes) carrier ++ codesOf carrier x) single ∙ sym codes-all) in
+        let now-coded : codesBy s₀ (take i bytes) carrier ++ (f ∷ g ∷ h ∷ []) ≡ codesBy s₀ (take (i + 1) bytes) carrier =
+        rw (ef, eg, eh) (ap (λ (x : Typed). codesBy s₀ (take i bytes) carrier ++ codesOf carrier x) single ∙ sym codes-all) in
         let counted : at + t .sent ≡ length (sentBy s₀ (take (i + 1) bytes) carrier) = rw (sent-all, length-append, count) (ap (λ (n : ℕ). n + length here) (T .count)) in
         record {
           within = omega arith;
@@ -240,10 +252,10 @@ module _ (s₀ : Set) (bytes : List ℕ) (carrier : Bool) (out₀ codes₀ : Lis
           wrote = whole;
           out-long = ap length whole ∙ front-long (sentBy s₀ (take (i + 1) bytes) carrier) out₀ (at + t .sent) (sym counted) (omega (arith, T .few, count, few));
           coded =
-              ap (λ (l : List ℕ). set (set l (2 * i) f) (2 * i + 1) g) (T .coded ∙ ap (λ (l : List ℕ). codesBy s₀ (take i bytes) carrier ++ l) two-left)
-              ∙ two-set (codesBy s₀ (take i bytes) carrier) (drop (2 * (i + 1)) codes₀) (2 * i) _ _ f g codes-so-far
-              ∙ ap (λ (l : List ℕ). l ++ drop (2 * (i + 1)) codes₀) now-coded;
-          codes-long = length-set (set codes (2 * i) f) (2 * i + 1) g ∙ length-set codes (2 * i) f ∙ T .codes-long;
+              ap (λ (l : List ℕ). set (set (set l (3 * i) f) (3 * i + 1) g) (3 * i + 2) h) (T .coded ∙ ap (λ (l : List ℕ). codesBy s₀ (take i bytes) carrier ++ l) three-left)
+              ∙ three-set (codesBy s₀ (take i bytes) carrier) (drop (3 * (i + 1)) codes₀) (3 * i) _ _ _ f g h codes-so-far
+              ∙ ap (λ (l : List ℕ). l ++ drop (3 * (i + 1)) codes₀) now-coded;
+          codes-long = length-set (set (set codes (3 * i) f) (3 * i + 1) g) (3 * i + 2) h ∙ length-set (set codes (3 * i) f) (3 * i + 1) g ∙ length-set codes (3 * i) f ∙ T .codes-long;
         }
 
   -- all are typed

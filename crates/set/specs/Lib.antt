@@ -4,3 +4,4 @@ pub mod Set
 pub mod String
 pub mod Book
 pub mod Event
+pub mod Before

@@ -28,6 +28,10 @@ use Rattle.set.specs.declared.Rung.{Rung}
 use Rattle.set.specs.Sound.{sound}
 use Rattle.set.specs.Refusals.{causeOfCreation, causeOfSound, causeOfTyping, causeOfFill, ifAccepted}
 
+-- 02, E6: the S12 that a set holds
+abbrev pub s12Of : Set → ℕ
+s12Of s = s .processor .s12
+
 -- a fresh set: Idle, with the fresh AT processor
 abbrev pub freshSet : ℕ → Set
 freshSet r = record { rate = r; processor = fresh; session = idle }

@@ -1,5 +1,5 @@
 -- 02, E3: a whole string typed in a call. "Set, bytes sent in order, count, and codes equal typing them singly", with one carrier flag and, for
--- each byte, an outbox of four.
+-- each byte, an outbox of four. 02, E6: its code buffer has three places a byte.
 use Prim.Native.Nat.{ℕ, _*_}
 use mathlib.Core.Bool.{Bool, _||_}
 use mathlib.Core.List.{List, [], _∷_, _++_}
@@ -11,7 +11,7 @@ use Rattle.set.specs.declared.Set.{Set}
 use Rattle.set.specs.declared.TypedAll.{TypedAll}
 use Rattle.set.specs.Sound.{sound}
 use Rattle.set.specs.Refusals.{causeOfString, ifAccepted}
-use Rattle.set.specs.Set.{typed, outbox}
+use Rattle.set.specs.Set.{s12Of, typed, outbox}
 
 abbrev pub four : List ℕ
 four = 0 ∷ 0 ∷ 0 ∷ 0 ∷ []
@@ -29,18 +29,19 @@ unfoldable pub sentBy : Set → List ℕ → Bool → List ℕ
 sentBy s [] carrier = []
 sentBy s (byte ∷ bytes) carrier = putBy s byte carrier ++ sentBy (typed s byte carrier 4 .set) bytes carrier
 
--- two codes a byte, 0 for none: so those of byte i, from 0, are at places 2i and 2i + 1
+-- 02, E6: "three places a byte, from 3i: the two codes", 0 for none, "and the S12 after that byte"
 unfoldable pub codesBy : Set → List ℕ → Bool → List ℕ
 codesBy s [] carrier = []
 codesBy s (byte ∷ bytes) carrier =
     firstOf (typed s byte carrier 4 .reply)
     ∷ secondOf (typed s byte carrier 4 .reply)
+    ∷ s12Of (typed s byte carrier 4 .set)
     ∷ codesBy (typed s byte carrier 4 .set) bytes carrier
 
 -- ---- the call: of the set, the string, the carrier flag, the outbox and the code buffer
--- more than 256 bytes give 8, then an outbox under four bytes for each byte or a code buffer under two gives 9
+-- more than 256 bytes give 8, then an outbox under four bytes for each byte or a code buffer under three places gives 9
 abbrev pub causeByLengths : (ok : Bool) (n room places : ℕ) → Refusal
-causeByLengths ok n room places = causeOfString ok (ltb 256 n) (ltb room (4 * n) || ltb places (2 * n))
+causeByLengths ok n room places = causeOfString ok (ltb 256 n) (ltb room (4 * n) || ltb places (3 * n))
 
 unfoldable pub stringCause : Set → (n room places : ℕ) → Refusal
 stringCause s n room places = causeByLengths (sound s) n room places

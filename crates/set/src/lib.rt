@@ -15,7 +15,7 @@ ghost use Rattle.at.specs.At.{sent};
 ghost use Rattle.at.specs.Processor.{commandMode};
 ghost use Rattle.set.specs.Refusals.{refusalNumber, causeOfSound, accepted};
 ghost use Rattle.set.specs.Sound.{sound};
-ghost use Rattle.set.specs.Set.{freshSet, creationCause, made, typingCause, byteTyped, typed, outbox, lapsed, forced, fillCause, fill, buffer, rung};
+ghost use Rattle.set.specs.Set.{s12Of, freshSet, creationCause, made, typingCause, byteTyped, typed, outbox, lapsed, forced, fillCause, fill, buffer, rung};
 ghost use Rattle.set.specs.String.{setBy, sentBy, codesBy, atFront, stringCause, typedAll, outboxAll, codesAll};
 
 // The shortest outbox that a typed byte takes, and the longest buffer that a fill takes.
@@ -258,7 +258,7 @@ impl Set {
             if n > MAX_STRING {
                 return Refusal::StringLength;
             }
-            if (room < 4 * n) | (places < 2 * n) {
+            if (room < 4 * n) | (places < 3 * n) {
                 return Refusal::StringRoom;
             }
             return Refusal::Accepted;
@@ -266,8 +266,8 @@ impl Set {
         Refusal::Unsound
     }
 
-    // A whole string typed at the panel, as its bytes typed singly. The codes of byte i, 0 for none,
-    // are put at places 2i and 2i + 1.
+    // A whole string typed at the panel, as its bytes typed singly. Byte i has three places of `codes`,
+    // from 3i: its two codes, 0 for none, and the S12 after it.
     pub fn feed_all(self, bytes: &[u8], carrier: bool, out: &mut [u8], codes: &mut [u8]) -> TypedAll
         ensures { λ r. ⌜ r ≡ typedAll self (now (bytes .entry)) carrier (length (now (out .entry))) (length (now (codes .entry))) ⌝ }
         ensures { λ _. ⌜ now (out .exit) ≡ outboxAll self (now (bytes .entry)) carrier (now (out .entry)) (length (now (codes .entry))) ⌝ }
@@ -294,7 +294,7 @@ impl Set {
         requires { ⌜ sound self ≡ true ⌝ }
         requires { ⌜ length (now bytes) ≤ 256 ⌝ }
         requires { ⌜ 4 * length (now bytes) ≤ length (now out) ⌝ }
-        requires { ⌜ 2 * length (now bytes) ≤ length (now codes) ⌝ }
+        requires { ⌜ 3 * length (now bytes) ≤ length (now codes) ⌝ }
         ensures { λ r. ⌜ r .set ≡ setBy self (now (bytes .entry)) carrier ⌝ }
         ensures { λ r. ⌜ r .sent ≡ length (sentBy self (now (bytes .entry)) carrier) ⌝ }
         ensures { λ _. ⌜ now (out .exit) ≡ atFront (sentBy self (now (bytes .entry)) carrier) (now (out .entry)) ⌝ }
@@ -306,11 +306,12 @@ impl Set {
         while i < bytes.len() {
             let t = s.take_byte(bytes[i], carrier, &mut out[at..]);
             let reply = t.reply;
-            let place = 2 * i;
+            let next = t.set;
+            let place = 3 * i;
             codes[place] = reply.first();
             codes[place + 1] = reply.second();
+            codes[place + 2] = next.s12();
             at += t.sent;
-            let next = t.set;
             s = next;
             i += 1;
         }
@@ -442,6 +443,13 @@ impl Set {
         ensures { λ r. ⌜ r ≡ self .session .m ⌝ }
     {
         self.session.m
+    }
+
+    // The guard time of an escape, in units of 20 ms.
+    pub fn s12(self) -> u8
+        ensures { λ r. ⌜ r ≡ s12Of self ⌝ }
+    {
+        self.processor.s12
     }
 
     pub fn rate(self) -> u32

@@ -7,7 +7,7 @@ use Rattle.bench.proofs.bench_strings.Statement.{statement}
 use Rattle.bench.proofs.bench_strings.Tie as tie
 
 abbrev Inv-loop : tie.InvT-loop
-Inv-loop rate digits skip turns s₀ outbox₀ codes₀ sent₀ i₀ t12 s outbox codes sent i = (length outbox ≡ 44) × (length codes ≡ 22)
+Inv-loop rate digits skip turns s₀ outbox₀ codes₀ sent₀ i₀ t12 s outbox codes sent i = (length outbox ≡ 44) × (length codes ≡ 33)
 
 abbrev μ-loop : tie.MeasureT-loop
 μ-loop rate digits skip turns s₀ outbox₀ codes₀ sent₀ i₀ t12 s outbox codes sent i = turns - i

@@ -1,4 +1,4 @@
--- `reply::write_reply` meets its contract: each code's arm hands its text to `put_front`, and another number has no text.
+-- `reply::write_reply` meets its contract: each code's arm hands its text to `put_front`, or S12 to `write_s12`, and another number has no text.
 -- Assumes nothing.
 use borrow.Author.Needs.{needs}
 use borrow.Author.Tests.{le-leb}
@@ -39,6 +39,9 @@ slice-aggregate-put-front-5 c = search needs
 put-front-requires-5 : tie.Need-put-front-requires-5
 put-front-requires-5 c κs = search needs
 
+write-s12-requires : tie.Need-write-s12-requires
+write-s12-requires c κs = search needs
+
 same-length : tie.Need-same-length
 same-length c = search needs
 
@@ -74,11 +77,18 @@ returns-5 : tie.Need-returns-5
 unfolding textOf
 returns-5 c = rw (c .before .before .before .before .before .match .keys5) (c .before .before .put-front5 .ensures)
 
+same-length-6 : tie.Need-same-length-6
+same-length-6 c = search needs
+
 returns-6 : tie.Need-returns-6
+unfolding textOf
+returns-6 c = rw (c .before .before .before .before .match .keys6) (c .before .before .write-s12 .ensures)
+
+returns-7 : tie.Need-returns-7
 unfolding put putLength
-returns-6 c =
+returns-7 c =
     let r = c .match .rest in
-    rw (other _ (r .0 .0 .0 .0 .1) (r .0 .0 .0 .1) (r .0 .0 .1) (r .0 .1) (r .1), le-leb _ _ zero-le) (search needs)
+    rw (other _ _ (r .0 .0 .0 .0 .0 .1) (r .0 .0 .0 .0 .1) (r .0 .0 .0 .1) (r .0 .0 .1) (r .0 .1) (r .1), le-leb _ _ zero-le) (search needs)
 
 pub write-reply-spec : {M : Type 1} → statement M
 write-reply-spec =
@@ -94,6 +104,7 @@ write-reply-spec =
     put-front-requires-4
     slice-aggregate-put-front-5
     put-front-requires-5
+    write-s12-requires
     same-length
     returns
     same-length-2
@@ -104,4 +115,6 @@ write-reply-spec =
     returns-4
     same-length-5
     returns-5
-    returns-6)
+    same-length-6
+    returns-6
+    returns-7)

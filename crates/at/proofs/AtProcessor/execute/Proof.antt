@@ -68,6 +68,18 @@ enum-told-8 c = search needs
 gives-requires-7 : tie.Need-gives-requires-7
 gives-requires-7 c κs = search needs
 
+enum-known-command : tie.Need-enum-known-command
+enum-known-command c = search needs
+
+gives-requires-8 : tie.Need-gives-requires-8
+gives-requires-8 c κs = search needs
+
+enum-told-9 : tie.Need-enum-told-9
+enum-told-9 c = search needs
+
+gives-requires-9 : tie.Need-gives-requires-9
+gives-requires-9 c κs = search needs
+
 returns : tie.Need-returns
 unfolding executed
 returns c = c .gives .ensures ∙ rw (c .before .enum-told .given .1)
@@ -100,6 +112,14 @@ returns-8 : tie.Need-returns-8
 unfolding executed
 returns-8 c = c .gives7 .ensures ∙ rw (c .before .enum-told8 .given .1)
 
+returns-9 : tie.Need-returns-9
+unfolding executed
+returns-9 c = c .gives8 .ensures ∙ rw (c .before .before .before .command .given .1)
+
+returns-10 : tie.Need-returns-10
+unfolding executed
+returns-10 c = c .gives9 .ensures ∙ rw (c .before .enum-told9 .given .1)
+
 pub execute-spec : {M : Type 1} → statement M
 execute-spec =
     tie.close
@@ -125,6 +145,10 @@ execute-spec =
     gives-requires-6
     enum-told-8
     gives-requires-7
+    enum-known-command
+    gives-requires-8
+    enum-told-9
+    gives-requires-9
     returns
     returns-2
     returns-3
@@ -132,4 +156,6 @@ execute-spec =
     returns-5
     returns-6
     returns-7
-    returns-8)
+    returns-8
+    returns-9
+    returns-10)

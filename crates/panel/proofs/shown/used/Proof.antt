@@ -1,10 +1,11 @@
 -- `shown::used` meets its contract: by the flag. Assumes nothing.
 use borrow.Author.Needs.{needs}
+use native.Mathlib.Omega.{arith}
 use Rattle.panel.proofs.shown.used.Statement.{statement}
 use Rattle.panel.proofs.shown.used.Tie as tie
 
 mul-result : tie.Need-mul-result
-mul-result c = search needs
+mul-result c = omega (arith, c .before .pre (c .if1 .taken))
 
 returns : tie.Need-returns
 returns c = rw (c .if1 .taken)

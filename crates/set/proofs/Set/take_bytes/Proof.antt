@@ -33,34 +33,43 @@ take-byte-requires : tie.Need-take-byte-requires Inv-loop μ-loop
 take-byte-requires c κs = search needs
 
 mul-place : tie.Need-mul-place Inv-loop μ-loop
-mul-place c = omega (arith, c .before .before .before .before .before .loop-test .taken, c .before .before .before .before .before .before .before .before .before .before .pre .1)
+mul-place c = omega (arith, c .before .before .before .before .before .before .loop-test .taken, c .before .before .before .before .before .before .before .before .before .before .before .pre .1)
 
 first-requires : tie.Need-first-requires Inv-loop μ-loop
 first-requires c κs = search needs
 
 slice-write-codes : tie.Need-slice-write-codes Inv-loop μ-loop
-slice-write-codes c = omega (arith, c .before .before .before .before .before .before .before .loop .inv .codes-long, c .before .before .before .before .before .before .loop-test .taken, c .before .before .before .before .before .before .before .before .before .before .before .pre .1)
+slice-write-codes c = omega (arith, c .before .before .before .before .before .before .before .before .loop .inv .codes-long, c .before .before .before .before .before .before .before .loop-test .taken, c .before .before .before .before .before .before .before .before .before .before .before .before .pre .1)
 
 second-requires : tie.Need-second-requires Inv-loop μ-loop
 second-requires c κs = search needs
 
 add-codes : tie.Need-add-codes Inv-loop μ-loop
-add-codes c = omega (arith, c .before .before .before .before .before .before .before .loop-test .taken, c .before .before .before .before .before .before .before .before .before .before .before .before .pre .1)
+add-codes c = omega (arith, c .before .before .before .before .before .before .before .before .loop-test .taken, c .before .before .before .before .before .before .before .before .before .before .before .before .before .pre .1)
 
 slice-write-codes-2 : tie.Need-slice-write-codes-2 Inv-loop μ-loop
-slice-write-codes-2 c = rw length-set (omega (arith, c .before .before .before .before .before .before .before .before .loop .inv .codes-long, c .before .before .before .before .before .before .before .loop-test .taken, c .before .before .before .before .before .before .before .before .before .before .before .before .pre .1))
+slice-write-codes-2 c = rw length-set (omega (arith, c .before .before .before .before .before .before .before .before .before .loop .inv .codes-long, c .before .before .before .before .before .before .before .before .loop-test .taken, c .before .before .before .before .before .before .before .before .before .before .before .before .before .pre .1))
+
+s12-requires : tie.Need-s12-requires Inv-loop μ-loop
+s12-requires c κs = search needs
+
+add-codes-2 : tie.Need-add-codes-2 Inv-loop μ-loop
+add-codes-2 c = omega (arith, c .before .before .before .before .before .before .before .before .before .loop-test .taken, c .before .before .before .before .before .before .before .before .before .before .before .before .before .before .pre .1)
+
+slice-write-codes-3 : tie.Need-slice-write-codes-3 Inv-loop μ-loop
+slice-write-codes-3 c = rw (length-set, length-set) (omega (arith, c .before .before .before .before .before .before .before .before .before .before .loop .inv .codes-long, c .before .before .before .before .before .before .before .before .before .loop-test .taken, c .before .before .before .before .before .before .before .before .before .before .before .before .before .before .pre .1))
 
 add-at : tie.Need-add-at Inv-loop μ-loop
-add-at c = omega (arith, typing-again _ _ _ _ _ _ _ _ _ _ (c .before .before .before .before .before .before .before .before .before .loop .inv) (c .before .before .before .before .before .before .before .before .loop-test .taken) (c .before .before .before .before .before .before .before .before .before .before .before .before .before .pre .1 .1 .0) (c .before .before .before .before .before .before .before .before .before .before .before .before .before .pre .1 .1 .1) _ _ _ _ (c .before .before .before .before .before .take-byte .ensures .0) (c .before .before .before .before .before .take-byte .ensures .1) (c .before .before .first .ensures) (c .before .second .ensures) .few, c .before .before .before .before .before .before .before .before .loop-test .taken, c .before .before .before .before .before .before .before .before .before .before .before .before .before .pre .1)
+add-at c = omega (arith, typing-again _ _ _ _ _ _ _ _ _ _ (c .before .before .before .before .before .before .before .before .before .before .before .loop .inv) (c .before .before .before .before .before .before .before .before .before .before .loop-test .taken) (c .before .before .before .before .before .before .before .before .before .before .before .before .before .before .before .pre .1 .1 .0) (c .before .before .before .before .before .before .before .before .before .before .before .before .before .before .before .pre .1 .1 .1) _ _ _ _ _ (c .before .before .before .before .before .before .before .take-byte .ensures .0) (c .before .before .before .before .before .before .before .take-byte .ensures .1) (c .before .before .before .first .ensures) (c .before .before .second .ensures) (c .before .s12 .ensures) .few, c .before .before .before .before .before .before .before .before .before .before .loop-test .taken, c .before .before .before .before .before .before .before .before .before .before .before .before .before .before .before .pre .1)
 
 add-i : tie.Need-add-i Inv-loop μ-loop
-add-i c = omega (arith, c .before .before .before .before .before .before .before .before .before .loop-test .taken, c .before .before .before .before .before .before .before .before .before .before .before .before .before .before .pre .1)
+add-i c = omega (arith, c .before .before .before .before .before .before .before .before .before .before .loop-test .taken, c .before .before .before .before .before .before .before .before .before .before .before .before .before .before .before .pre .1)
 
 loop-less : tie.Need-loop-less Inv-loop μ-loop
-loop-less c = omega (arith, c .before .before .before .before .before .before .before .before .before .loop-test .taken)
+loop-less c = omega (arith, c .before .before .before .before .before .before .before .before .before .before .loop-test .taken)
 
 loop-again : tie.Need-loop-again Inv-loop μ-loop
-loop-again c = typing-again _ _ _ _ _ _ _ _ _ _ (c .before .before .before .before .before .before .before .before .before .before .loop .inv) (c .before .before .before .before .before .before .before .before .before .loop-test .taken) (c .before .before .before .before .before .before .before .before .before .before .before .before .before .before .pre .1 .1 .0) (c .before .before .before .before .before .before .before .before .before .before .before .before .before .before .pre .1 .1 .1) _ _ _ _ (c .before .before .before .before .before .before .take-byte .ensures .0) (c .before .before .before .before .before .before .take-byte .ensures .1) (c .before .before .before .first .ensures) (c .before .before .second .ensures)
+loop-again c = typing-again _ _ _ _ _ _ _ _ _ _ (c .before .before .before .before .before .before .before .before .before .before .before .loop .inv) (c .before .before .before .before .before .before .before .before .before .before .loop-test .taken) (c .before .before .before .before .before .before .before .before .before .before .before .before .before .before .before .pre .1 .1 .0) (c .before .before .before .before .before .before .before .before .before .before .before .before .before .before .before .pre .1 .1 .1) _ _ _ _ _ (c .before .before .before .before .before .before .before .take-byte .ensures .0) (c .before .before .before .before .before .before .before .take-byte .ensures .1) (c .before .before .before .first .ensures) (c .before .before .second .ensures) (c .before .s12 .ensures)
 
 same-length : tie.Need-same-length Inv-loop μ-loop
 same-length c = c .before .loop .inv .out-long
@@ -89,6 +98,9 @@ take-bytes-spec =
     second-requires
     add-codes
     slice-write-codes-2
+    s12-requires
+    add-codes-2
+    slice-write-codes-3
     add-at
     add-i
     loop-less
