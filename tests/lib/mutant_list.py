@@ -475,12 +475,12 @@ BITS = [
     one("main.rs", "kept_301", "KEPT: usize = 300", "KEPT: usize = 301"),
     one("lines.rs", "bits_without_ext", "if extended && room <= 64", "if room <= 64"),
     one("lines.rs", "bits_room_of_65", "room <= 64", "room <= 65"),
-    one("lines.rs", "frame_without_ext", '(b"U", &[]) if extended', '(b"U", &[])'),
 ]
 
 # ---------------------------------------------------------------- Cannot be seen
 
 UNSEEN = [
+    one("lines.rs", "unseen_frame_without_ext", '(b"U", &[]) if extended', '(b"U", &[])', unseen="without --ext nothing is kept, so that no frame has ten bits"),
     one("libm.rs", "unseen_reflection_at_q", "if y > Q", "if y >= Q", unseen="H - Q is Q"),
     one("libm.rs", "unseen_sine_at_zero", "0.0 <= x", "0.0 < x", unseen="S(0) is 0.0 either way"),
     one("libm.rs", "unseen_sine_at_tau", "x < TAU", "x <= TAU", unseen="a phase never stays at TAU or above"),
