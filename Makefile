@@ -32,10 +32,11 @@ oracle:
 
 # What `call` writes, held against the Rust and played to decoders of keys and of bits; and what the programs say where something fails.
 listen: rt
-	rt check call wall tap
+	rt check call wall tap letters
 	tests/call
 	tests/decode
 	tests/failures
+	tests/letters
 
 # The port against the Rust: ns a sample, and the samples' bits compared.
 bench: rt

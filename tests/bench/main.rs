@@ -54,6 +54,7 @@ fn main() {
     let equal = [bench.overtures(), bench.stages(), bench.lengths(), bench.digits()];
     bench.calls();
     bench.plans();
+    bench.bits();
     if equal.contains(&false) {
         println!("\nTHE BITS DIFFER");
         std::process::exit(1);
@@ -300,6 +301,26 @@ impl Bench {
     }
 
     /// T before the call, against filling the call that it tells of.
+    /// 02's E7: the frames of 400 random bytes, ones between them, read back; the Rust's `Deframer` bit by bit.
+    fn bits(&self) {
+        let mut list = Vec::new();
+        let mut state = 1u32;
+        for _ in 0..400 {
+            state = state.wrapping_mul(1_664_525).wrapping_add(1_013_904_223);
+            list.extend(frame::frame_byte((state >> 24) as u8).map(u8::from));
+            list.resize(list.len() + (state >> 20) as usize % 4, 1);
+        }
+        let given = |list: &[u8]| {
+            let mut reader = frame::Deframer::new();
+            list.iter().filter(|&&bit| reader.push_bit(bit != 0).is_some()).count() as u64
+        };
+        assert_eq!((port::bits(&list, 1), given(&list)), (400, 400));
+        let each = |work: &dyn Fn() -> u64| (0..self.rounds).map(|_| nanoseconds(|| drop(black_box(work())))).fold(f64::MAX, f64::min) / (1000 * list.len()) as f64;
+        let rust = each(&|| (0..1000).map(|_| given(black_box(&list))).sum());
+        let port = each(&|| port::bits(black_box(&list), 1000));
+        println!("\na bit read back, nanoseconds: {rust:.2} the Rust's, {port:.2} the port's");
+    }
+
     fn plans(&self) {
         println!("\nT before the call, against filling it in buffers of 4096, microseconds");
         println!("{:>10} {:>10} {:>10} {:>10} {:>10} {:>10}", "rate", "digits", "T", "before", "filling", "times");

@@ -7,6 +7,7 @@ extern "C" {
     fn bench_empty_fills(rate: u32, digits: &[u8], skip: usize, turns: u64) -> u32;
     fn bench_bytes(rate: u32, digits: &[u8], skip: usize, turns: u64) -> u64;
     fn bench_strings(rate: u32, digits: &[u8], skip: usize, turns: u64) -> u64;
+    fn bench_bits(bits: &[u8], turns: u64) -> u64;
     fn bench_sound(rate: u32, digits: &[u8], skip: usize, turns: u64) -> u64;
 }
 
@@ -43,4 +44,9 @@ impl Start<'_> {
     pub fn sound(self, turns: u64) -> u64 {
         unsafe { bench_sound(self.rate, self.digits, self.skip, turns) }
     }
+}
+
+/// Reads the bits from idle, as often as `turns` says; answers how many bytes they give.
+pub fn bits(list: &[u8], turns: u64) -> u64 {
+    unsafe { bench_bits(list, turns) }
 }

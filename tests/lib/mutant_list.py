@@ -480,9 +480,40 @@ S12 = [
     one("set.rs", "s12_of_the_whole_string", "        self.session.sent = sent;\n", "        let last = self.guard.s12; for place in codes.iter_mut().skip(2).step_by(3) { *place = last; }\n        self.session.sent = sent;\n"),
 ]
 
+# ---------------------------------------------------------------- 02's E7, bits
+
+BITS = [
+    one("bits.rs", "bits_highest_first", "<< i).sum()", "<< (7 - i)).sum()"),
+    one("bits.rs", "bad_stop_opens_a_frame", "Reader::Frame(_) if !one => Reader::Skipping,", "Reader::Frame(_) if !one => Reader::Frame(vec![one]),"),
+    one("bits.rs", "bad_stop_is_idle", "Reader::Frame(_) if !one => Reader::Skipping,", "Reader::Frame(_) if !one => Reader::Idle,"),
+    one("bits.rs", "bad_stop_gives_a_byte", "Reader::Frame(_) if !one => Reader::Skipping,", ""),
+    one("bits.rs", "skips_for_ever", "Reader::Skipping if one => Reader::Idle,", "Reader::Skipping if one => Reader::Skipping,"),
+    one("bits.rs", "skips_to_a_zero", "Reader::Skipping => Reader::Skipping,", "Reader::Skipping => Reader::Idle,"),
+    one("bits.rs", "nine_bits_a_frame", "frame.len() < 9", "frame.len() < 8"),
+    one("bits.rs", "two_is_zero", "let one = bit != 0;", "let one = bit == 1;"),
+    one("bits.rs", "two_is_zero_in_a_frame", "map(|&bit| bit != 0)", "map(|&bit| bit == 1)"),
+    one("bits.rs", "stop_bit_taken_when_full", "return (taken, given);", "*self = Reader::Idle; return (taken + 1, given);"),
+    one("bits.rs", "stops_as_soon_as_full", "let one = bit != 0;", "let one = bit != 0; if given.len() == room { return (taken, given); }"),
+    one("bits.rs", "one_byte_more_than_room", "given.len() == room", "given.len() == room + 1"),
+    one("bits.rs", "any_start_bit", "if frame[0] || !frame[9]", "if !frame[9]"),
+    one("bits.rs", "any_stop_bit", "if frame[0] || !frame[9]", "if frame[0]"),
+    one("main.rs", "bad_frame_is_10", "{ 0 } else { 11 }", "{ 0 } else { 10 }"),
+    one("main.rs", "place_lost_between_calls", "let (taken, given) = reader.read(&bits, room);", "*reader = Reader::Idle; let (taken, given) = reader.read(&bits, room);"),
+    one("main.rs", "place_kept_by_a_fresh_set", "            *reader = Reader::Idle;\n", ""),
+    one("main.rs", "place_kept_by_a_declined_one", "            *reader = Reader::Idle;\n", "            if answer.refusal == 0 { *reader = Reader::Idle; }\n"),
+    one("main.rs", "bits_not_forgotten", "let bits = std::mem::take(kept);", "let bits = kept.clone();"),
+    one("main.rs", "frame_not_forgotten", "let frame = std::mem::take(kept);", "let frame = kept.clone();"),
+    one("main.rs", "frame_of_nine", "frame.len() != 10", "frame.len() < 10"),
+    one("main.rs", "kept_299", "KEPT: usize = 300", "KEPT: usize = 299"),
+    one("main.rs", "kept_301", "KEPT: usize = 300", "KEPT: usize = 301"),
+    one("lines.rs", "bits_without_ext", "if extended && room <= 64", "if room <= 64"),
+    one("lines.rs", "bits_room_of_65", "room <= 64", "room <= 65"),
+]
+
 # ---------------------------------------------------------------- Cannot be seen
 
 UNSEEN = [
+    one("lines.rs", "unseen_frame_without_ext", '(b"U", &[]) if extended', '(b"U", &[])', unseen="without --ext nothing is kept, so that no frame has ten bits"),
     one("libm.rs", "unseen_reflection_at_q", "if y > Q", "if y >= Q", unseen="H - Q is Q"),
     one("libm.rs", "unseen_sine_at_zero", "0.0 <= x", "0.0 < x", unseen="S(0) is 0.0 either way"),
     one("libm.rs", "unseen_sine_at_tau", "x < TAU", "x <= TAU", unseen="a phase never stays at TAU or above"),
@@ -508,8 +539,6 @@ UNSEEN = [
     one("at.rs", "unseen_lost_keeps_down_time", "self.carrier_up = false;\n        self.carrier_down_for = Duration::ZERO;", "self.carrier_up = false;",
         unseen="it is read only once the carrier was up again, which zeroes it"),
     one("at.rs", "unseen_fourth_plus_late", "1 | 2 => idle <= GUARD_TIME", "1 | 2 | 4.. => idle <= GUARD_TIME", unseen="no more than three are held"),
-    one("main.rs", "unseen_kept_299", "KEPT: usize = 300", "KEPT: usize = 299", unseen="a string of more than 256 bytes is declined, however many more"),
-    one("main.rs", "unseen_kept_301", "KEPT: usize = 300", "KEPT: usize = 301", unseen="a string of more than 256 bytes is declined, however many more"),
 ]
 
-ALL = FLOATS + KEYS + STAGES + SET + REFUSALS + AT + LINES + CUE + STRINGS + S12 + UNSEEN
+ALL = FLOATS + KEYS + STAGES + SET + REFUSALS + AT + LINES + CUE + STRINGS + S12 + BITS + UNSEEN

@@ -456,10 +456,17 @@ def parsed(line, extended=False):
         limits[b"C", 1] = (255,)
         limits[b"M", 1] = (255,)
         limits[b"S", 3] = (1, 1_200, 1_200)
+        limits[b"B", 1] = (64,)
+        limits[b"U", 0] = ()
     limit = limits.get((letter, len(numbers)))
     if limit is None or any(most is not None and n > most for n, most in zip(numbers, limit)):
         return None
     return letter.decode(), numbers
+
+
+def byte_of(frame):
+    """The byte of a frame's bits, which are text."""
+    return bytes([int(frame[8:0:-1], 2)])
 
 
 class Wall:
@@ -467,13 +474,15 @@ class Wall:
 
     def __init__(self):
         self.set, self.kept = Set(), b""
+        # 02's E7: the bits of an unfinished frame, "skip" after a bad stop bit, and what the last call told
+        self.place, self.bits = "", ""
 
     def perform(self, call):
         letter, numbers = call
         if letter == "R":
             rate = numbers[0]
             refused = not LOWEST_RATE <= rate <= HIGHEST_RATE
-            self.set = Set(LOWEST_RATE if refused else rate)
+            self.set, self.place = Set(LOWEST_RATE if refused else rate), ""
             return (1 if refused else 0), ()
         if letter == "T":
             return self.set.feed(numbers[0], numbers[1] == 1, *numbers[2:])
@@ -483,15 +492,49 @@ class Wall:
             return self.set.process_out(numbers[0])
         if letter == "C":
             return self.set.cue(numbers[0])
+        if letter == "B":
+            return self.read_bits(numbers[0])
+        if letter == "U":
+            return self.take_frame()
         if letter == "S":
             string, self.kept = self.kept, b""
             return self.set.feed_all(string, numbers[0] == 1, *numbers[1:])
         return self.set.force_data_mode()
 
+    def read_bits(self, room):
+        """02's E7: the string as bits; a frame's bits are kept as text."""
+        string, self.kept, given, taken = self.kept, b"", b"", 0
+        for bit in string:
+            frame = self.place + "01"[bit != 0]
+            if self.place == "skip":
+                self.place = "" if bit else "skip"
+            elif frame == "1":
+                self.place = ""
+            elif len(frame) < 10:
+                self.place = frame
+            elif not bit:
+                self.place = "skip"
+            elif len(given) == room:
+                break
+            else:
+                given, self.place = given + byte_of(frame), ""
+            taken += 1
+        self.bits = f"# taken={taken} given={given.hex().upper() or '-'}"
+        return 0, ()
+
+    def take_frame(self):
+        frame, self.kept = "".join("01"[bit != 0] for bit in self.kept), b""
+        good = frame[0] == "0" and frame[9] == "1"
+        self.bits = f"# byte={byte_of(frame).hex().upper() if good else '-'}"
+        return (0 if good else 11), ()
+
     def answer(self, call):
-        """The line printed; None for M, which prints nothing."""
+        """The line printed; None for M, and for U with other than ten bytes, which print nothing."""
         if call[0] == "M":
             self.kept = (self.kept + bytes(call[1]))[:KEPT]
+            return None
+        if call[0] == "U" and len(self.kept) != 10:
+            self.kept = b""
             return None
         refusal, codes = self.perform(call)
         first, second = (tuple(codes) + (0, 0))[:2]
@@ -503,6 +546,8 @@ class Wall:
         """The part of the oracle's second line that needs no samples."""
         if call[0] == "C":
             return f"# cue={self.set.cued}"
+        if call[0] in "BU":
+            return self.bits
         sent = f"# ring={self.set.ring()} sent={self.set.sent.hex().upper() or '-'}"
         return f"{sent} codes={self.set.codes.hex().upper() or '-'}" if call[0] == "S" else sent
 

@@ -57,16 +57,25 @@ def count(script, answers, extended=False, spread=None):
             reached["byte passed over" if len(wall.kept) == paper.KEPT else "byte kept"] += 1
             wall.answer(call)
             continue
+        if call[0] == "U" and len(wall.kept) != 10:
+            reached["frame of nine bits" if len(wall.kept) == 9 else "frame of eleven bits" if len(wall.kept) == 11 else "frame of no bits" if not wall.kept else "frame of other than ten bits"] += 1
+            wall.answer(call)
+            continue
         if at + 2 > len(rows):
             raise Disagreement(f"line {number} {line!r}: no answer")
-        before = Before(wall.set, wall.kept)
+        before = Before(wall.set, wall.kept, wall.place)
         expected, facts = wall.answer(call), wall.facts(call)
         row, second = rows[at], rows[at + 1]
         at += 2
         if row != expected or not (second == facts or second.startswith(facts + " n=")):
             raise Disagreement(f"line {number} {line!r}: {row} / {second}, by 01 {expected} / {facts}")
         note_answer(reached, call, row.split(","), wall.set)
-        NOTES[call[0]](reached, before, call[1], wall.set, row.split(","))
+        if call[0] == "R" and before.place:
+            reached["place set back by a fresh set" if row[0] == "0" else "place set back by a declined one"] += 1
+        if call[0] in "BU":
+            note_bits(reached, before, call, wall)
+        else:
+            NOTES[call[0]](reached, before, call[1], wall.set, row.split(","))
         if spread:
             spread.note(before, call, wall.set, row.split(",")[0])
     if at != len(rows):
@@ -79,7 +88,8 @@ class Before:
 
     guard = paper.Set.guard
 
-    def __init__(self, s, kept=b""):
+    def __init__(self, s, kept=b"", place=""):
+        self.place = place
         self.__dict__.update(vars(s))
         self.set, self.kept = copy.copy(s), kept
         self.next_stage = 0
@@ -367,6 +377,41 @@ def note_string(reached, before, numbers, after, row):
     reached["string with several S12"] += len(set(after.codes[2::3])) > 1
 
 
+def note_bits(reached, before, call, wall):
+    """02's E7: how the reader was found and left, and what stopped it."""
+    if call[0] == "U":
+        string = before.kept
+        reached[f"frame with start bit {int(string[0] != 0)} and stop bit {int(string[9] != 0)}"] += 1
+        reached["frame whose byte reads otherwise backwards"] += string[1:9] != string[8:0:-1]
+        return
+    (room,), bits, place = call[1], before.kept, before.place
+    taken, given = wall.bits[2:].split()
+    taken, given = int(taken[6:]), 0 if given == "given=-" else len(given[6:]) // 2
+    kind = lambda p: "skipping" if p == "skip" else "idle" if not p else "in a frame"
+    reached[f"bits found {kind(place)}"] += 1
+    reached[f"bits left {kind(wall.place)}"] += 1
+    reached["bits in a frame of nine"] += len(place) == 9
+    reached["bits stopped by a full buffer"] += taken < len(bits)
+    reached["bits stopped with no room"] += taken < len(bits) and room == 0
+    reached["all bits taken with a full buffer"] += bool(bits) and taken == len(bits) and given == room
+    reached["bit that is neither 0 nor 1"] += any(bit > 1 for bit in bits)
+    reached["no bits"] += not bits
+    reached[f"{len(bits)} bits"] += len(bits) in (299, 300)
+    reached[f"room of {room}"] += room in (0, 1, 64)
+    for bit in bits[:taken]:
+        frame = place + "01"[bit != 0]
+        if place == "skip":
+            reached["zero while skipping"] += not bit
+            place = "" if bit else "skip"
+        elif frame == "1":
+            place = ""
+        elif len(frame) < 10:
+            place = frame
+        else:
+            reached["zero stop bit"] += not bit
+            place = "" if bit else "skip"
+
+
 NOTES = {"R": note_create, "T": note_typed, "W": note_lapse, "F": note_fill, "D": note_forced, "C": note_cue, "S": note_string}
 
 
@@ -432,6 +477,12 @@ def must(extended):
         names += [f"string in {state}" for state in STATE_NAMES] + ["string in both modes", "string whose carrier flag is heard"]
         names += ["string with several S12", "string with two codes of a byte", "string with codes of several bytes", "string that sends"]
         names += ["string that lets pluses go", "string that withholds a plus", "string that runs over a line"]
+        names += ["refusal 11", "frame of nine bits", "frame of eleven bits", "frame of no bits"]
+        names += [f"frame with start bit {a} and stop bit {b}" for a in (0, 1) for b in (0, 1)] + ["frame whose byte reads otherwise backwards"]
+        names += [f"bits {how} {kind}" for how in ("found", "left") for kind in ("idle", "in a frame", "skipping")] + ["bits in a frame of nine"]
+        names += ["bits stopped by a full buffer", "bits stopped with no room", "all bits taken with a full buffer", "bit that is neither 0 nor 1"]
+        names += ["no bits", "299 bits", "300 bits", "room of 0", "room of 1", "room of 64", "zero stop bit", "zero while skipping"]
+        names += ["place set back by a fresh set", "place set back by a declined one"]
         names += [f"string that {what}" for what in ("dials", "answers", "hangs up", "hangs up and dials")]
     return names
 

@@ -34,6 +34,7 @@ OTHER_LINES = (
     b"d", b"DD", b"X", b"X,1", b"0", b",", b",,", b"R,8000\r", b"D\r", b"F,1\r", b"\xff\xfe", b"T,65,0\x00",
     b"# ring=0", b"0,C,0,0,0,0,0", b"C", b"C,", b"C,256", b"C,0,0", b"c,0", b"C,-1", b"C,18446744073709551616", b"# cue=0",
     b"M", b"M,", b"M,256", b"M,65,0", b"m,65", b"S", b"S,0", b"S,0,4", b"S,2,4,2", b"S,0,1201,2", b"S,0,4,1201", b"S,0,4,2,0", b"s,0,4,2",
+    b"B", b"B,", b"B,65", b"B,64,0", b"b,64", b"B,-1", b"U,", b"U,0", b"u", b"UU",
 )
 
 
@@ -480,6 +481,44 @@ class Script:
         if self.chance(0.9):
             self.create(self.some_rate())
 
+    def some_bits(self):
+        """Frames with ones between, now and then with a bad stop bit, a bit lost, or a one that is no 1."""
+        bits = []
+        for _ in range(self.random.choice((0, 1, 2, 3, 6, 28))):
+            byte = self.random.randint(0, 255)
+            bits += [1] * self.random.choice((0, 0, 0, 1, 2, 10))
+            bits += [0] + [byte >> i & 1 for i in range(8)] + [self.random.choice((1, 1, 1, 1, 0))]
+        if bits and self.chance(0.3):
+            del bits[self.random.randrange(len(bits))]
+        if self.chance(0.2):
+            bits += [self.random.randint(0, 1) for _ in range(self.random.choice((1, 9, 40)))]
+        if self.chance(0.2):
+            bits += [0] * self.random.choice((1, 11, 30))
+        return bytes(self.random.choice((2, 128, 255, 48)) if bit and self.chance(0.05) else bit for bit in bits)
+
+    def scene_bits(self):
+        """02's E7: bits in several calls with room that is ample or short, a fresh set between; and single frames."""
+        if not self.extended:
+            return
+        for _ in range(self.random.randint(1, 4)):
+            pick = self.random.random()
+            if pick < 0.3:
+                frame = bytearray([0] + [self.random.randint(0, 1) for _ in range(8)] + [1])
+                if self.chance(0.4):
+                    frame[0], frame[9] = self.random.choice(((1, 1), (0, 0), (1, 0)))
+                if self.chance(0.2):
+                    frame[9] = self.random.choice((0, 2, 255))
+                self.keep((bytes(frame) * 2)[:self.random.choice((10,) * 8 + (0, 9, 11))])
+                self.put(b"U")
+                continue
+            bits = self.some_bits()
+            if self.chance(0.1):
+                bits = (bits + b"\x00\x01" * 150)[:self.random.choice((299, 300, 301))]
+            self.keep(bits)
+            self.put(b"B," + self.number(self.random.choice((64, 64, 64, 64, 0, 1, 2, 3, len(bits) // 10))))
+            if self.chance(0.1):
+                self.scene_fresh()
+
     def scene_in_connected(self):
         """Fills, bytes and a new dial once the line is up."""
         if self.set.state != CONNECTED:
@@ -534,7 +573,7 @@ class Script:
         (scene_fresh, 6), (scene_command, 12), (scene_empty_line, 2), (scene_dial, 10), (scene_fill, 10),
         (scene_stage_end, 8), (scene_walk, 3), (scene_line_up, 3), (scene_inner_edge, 5), (scene_escape, 10),
         (scene_carrier, 8), (scene_resume, 5), (scene_hang_up, 4), (scene_huge_lapse, 2), (scene_forced, 4), (scene_long_line, 4), (scene_other_lines, 4), (scene_noise, 5),
-        (scene_extended, 8), (scene_cue, 6), (scene_string, 10), (scene_s12, 6), (scene_in_connected, 3), (scene_in_answering, 3),
+        (scene_extended, 8), (scene_cue, 6), (scene_string, 10), (scene_s12, 6), (scene_bits, 8), (scene_in_connected, 3), (scene_in_answering, 3),
     )
 
     def write(self, count):

@@ -12,12 +12,14 @@ pub enum Call {
     Cue { position: usize },
     Keep { byte: u8 },
     TypeString { carrier: bool, outbox: usize, places: usize },
+    ReadBits { room: usize },
+    TakeFrame,
 }
 
 const WIDEST_OUTBOX: u128 = 16;
 const STRING_ROOM: u128 = 1_200;
 
-/// With `extended`, a T line may give the outbox length, fills may be longer, and there are C, M and S lines.
+/// With `extended`, a T line may give the outbox length, fills may be longer, and there are C, M, S, B and U lines.
 pub fn read_line(line: &[u8], extended: bool) -> Option<Call> {
     let mut parts = line.split(|&b| b == b',');
     let letter = parts.next()?;
@@ -38,6 +40,8 @@ pub fn read_line(line: &[u8], extended: bool) -> Option<Call> {
         (b"S", &[carrier, outbox, places]) if extended && outbox.max(places) <= STRING_ROOM => {
             Some(Call::TypeString { carrier: flag(carrier)?, outbox: outbox as usize, places: places as usize })
         }
+        (b"B", &[room]) if extended && room <= 64 => Some(Call::ReadBits { room: room as usize }),
+        (b"U", &[]) if extended => Some(Call::TakeFrame),
         _ => None,
     }
 }

@@ -3,7 +3,7 @@
 //!
 //! oracle [--bits] [--ext] < lines
 //!
-//! --bits adds a line to each answer: ring, bytes sent and, for a fill, its samples; for a cue, its sample; for a string, its codes.
+//! --bits adds a line to each answer: ring, bytes sent and, for a fill, its samples; for a cue, its sample; for a string, its codes; for bits, the bytes.
 //! --ext lets T lines give the outbox length and fills be longer than `wall` allows, and adds the lines of 02.
 
 // The Rust is compiled as it is; what 01 leaves out of it is never called.
@@ -11,8 +11,10 @@
 
 include!("rust.rs");
 
+mod bits;
 mod lines;
 
+use bits::{unframe, Reader};
 use lines::{read_line, Call};
 use set::{Answer, Set};
 use std::io::{self, BufRead, BufReader, BufWriter, Write};
@@ -23,6 +25,8 @@ enum Second {
     Filled(Vec<f32>),
     Cued(u64),
     Coded(Vec<u8>),
+    Read(usize, Vec<u8>),
+    Framed(Option<u8>),
 }
 
 /// What a buffer holds before its fill, so that a declined one can be told.
@@ -52,6 +56,7 @@ fn run(bits: bool, extended: bool) -> io::Result<()> {
     let mut output = BufWriter::new(io::stdout().lock());
     let (_, mut set) = Set::new(set::LOWEST_RATE);
     let mut kept = Vec::new();
+    let mut reader = Reader::Idle;
     let mut line = Vec::new();
     loop {
         // Whoever waits for an answer before the next line gets it.
@@ -66,7 +71,7 @@ fn run(bits: bool, extended: bool) -> io::Result<()> {
             line.pop();
         }
         let Some(call) = read_line(&line, extended) else { continue };
-        let Some((answer, second)) = perform(&mut set, &mut kept, call) else { continue };
+        let Some((answer, second)) = perform(&mut set, &mut kept, &mut reader, call) else { continue };
         print_answer(&mut output, &set, &answer)?;
         if bits {
             print_second(&mut output, &set, second)?;
@@ -74,12 +79,13 @@ fn run(bits: bool, extended: bool) -> io::Result<()> {
     }
 }
 
-/// The answer, and what its second line tells. A byte that is kept has neither.
-fn perform(set: &mut Set, kept: &mut Vec<u8>, call: Call) -> Option<(Answer, Second)> {
+/// The answer, and what its second line tells. A byte that is kept has neither, nor has a frame of other than ten bits.
+fn perform(set: &mut Set, kept: &mut Vec<u8>, reader: &mut Reader, call: Call) -> Option<(Answer, Second)> {
     Some(match call {
         Call::Create { rate } => {
             let (answer, fresh) = Set::new(rate);
             *set = fresh;
+            *reader = Reader::Idle;
             (answer, Second::Sent)
         }
         Call::Type { byte, carrier, outbox } => (set.feed(byte, carrier, outbox), Second::Sent),
@@ -105,6 +111,19 @@ fn perform(set: &mut Set, kept: &mut Vec<u8>, call: Call) -> Option<(Answer, Sec
             kept.clear();
             (answer, Second::Coded(codes))
         }
+        Call::ReadBits { room } => {
+            let bits = std::mem::take(kept);
+            let (taken, given) = reader.read(&bits, room);
+            (Answer::default(), Second::Read(taken, given))
+        }
+        Call::TakeFrame => {
+            let frame = std::mem::take(kept);
+            if frame.len() != 10 {
+                return None;
+            }
+            let byte = unframe(&frame);
+            (Answer::declined(if byte.is_some() { 0 } else { 11 }), Second::Framed(byte))
+        }
     })
 }
 
@@ -126,6 +145,14 @@ fn print_second(out: &mut impl Write, set: &Set, second: Second) -> io::Result<(
             print_samples(out, &samples)?;
         }
         Second::Cued(sample) => write!(out, "# cue={sample}")?,
+        Second::Read(taken, given) => {
+            write!(out, "# taken={taken} given=")?;
+            print_bytes(out, &given)?;
+        }
+        Second::Framed(byte) => {
+            write!(out, "# byte=")?;
+            print_bytes(out, byte.as_slice())?;
+        }
         Second::Coded(codes) => {
             print_sent(out, set)?;
             write!(out, " codes=")?;

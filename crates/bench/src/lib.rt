@@ -1,5 +1,6 @@
 // What the benchmark times, for tests/bench to link. No export holds a set between two calls, so
 // each makes a set, dials, plays up to a sample, and then does one thing many times over.
+use deframe::Deframer;
 use set::Set;
 ghost use Prim.Native.Nat.{_<_, _≤_};
 
@@ -169,4 +170,19 @@ pub extern "C" fn bench_sound(rate: u32, digits: &[u8], skip: usize, turns: u64)
         i += 1;
     }
     held
+}
+
+// A list of bits read from idle into a buffer of 512 bytes; answers how many bytes the last one gave.
+#[no_mangle]
+pub extern "C" fn bench_bits(bits: &[u8], turns: u64) -> u64 {
+    let mut out = [0u8; 512];
+    let mut given: usize = 0;
+    let mut i: u64 = 0;
+    while i < turns {
+        let reader = Deframer::new();
+        let r = reader.read(bits, &mut out);
+        given = r.given;
+        i += 1;
+    }
+    given as u64
 }

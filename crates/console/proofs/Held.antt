@@ -8,7 +8,7 @@ use borrow.Author.Tests.{ltb-true, ltb-false, lt-ltb, le-ltb, lt-leb}
 use lib.Dec.{leb, ltb}
 use Rattle.console.specs.declared.lines.Call.the-variants.{Rate, Other}
 use Rattle.console.specs.declared.lines.Parser.{Parser}
-use Rattle.console.specs.Lines.{is, fillCall, fillIf, typedCall, typedIf, lapseCall, lapseIf, cueCall, cueIf, keptCall, keptIf, stringCall, stringIf, addedCall, oneCall, twoCall, threeCall}
+use Rattle.console.specs.Lines.{is, fillCall, fillIf, typedCall, typedIf, lapseCall, lapseIf, cueCall, cueIf, keptCall, keptIf, bitsCall, bitsIf, stringCall, stringIf, addedCall, oneCall, twoCall, threeCall}
 use Rattle.console.specs.Parser.{largest, digitOf, commaOf, commaIf, severalOf, answerOf, answerIf}
 
 abbrev pub capped : ℕ → ℕ
@@ -64,17 +64,23 @@ unfolding keptCall keptIf
 kept-capped (within e q) = rw q
 kept-capped {v} (past e h) = rw (lt-leb (capped v) 255 (omega arith), lt-leb v 255 (omega arith))
 
-added-capped : (isC isM : Bool) (v : ℕ) → addedCall isC isM (capped v) ≡ addedCall isC isM v
+bits-capped : {v : ℕ} → Size v → bitsCall (capped v) ≡ bitsCall v
+unfolding bitsCall bitsIf
+bits-capped (within e p) = rw p
+bits-capped {v} (past e h) = rw (lt-leb (capped v) 64 (omega arith), lt-leb v 64 (omega arith))
+
+added-capped : (isC isM isB : Bool) (v : ℕ) → addedCall isC isM isB (capped v) ≡ addedCall isC isM isB v
 unfolding addedCall
-added-capped true isM v = cue-capped (size v)
-added-capped false true v = kept-capped (size v)
-added-capped false false v = refl
+added-capped true isM isB v = cue-capped (size v)
+added-capped false true isB v = kept-capped (size v)
+added-capped false false true v = bits-capped (size v)
+added-capped false false false v = refl
 
 one-capped : (isR isF x : Bool) (letter v : ℕ) → oneCall isR isF x letter (capped v) ≡ oneCall isR isF x letter v
 unfolding oneCall
 one-capped true isF x letter v = ap Rate (omega arith)
 one-capped false true x letter v = fill-capped x (size v)
-one-capped false false true letter v = added-capped (is "C" letter) (is "M" letter) v
+one-capped false false true letter v = added-capped (is "C" letter) (is "M" letter) (is "B" letter) v
 one-capped false false false letter v = refl
 
 -- ---- two and three numbers

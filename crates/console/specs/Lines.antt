@@ -7,7 +7,7 @@ use mathlib.Core.List.{List, [], _∷_}
 use mathlib.Core.Option.{Option, some, none}
 use lib.Dec.{leb, ltb, eqb}
 use Rattle.console.specs.declared.lines.Call.{Call}
-use Rattle.console.specs.declared.lines.Call.the-variants.{Rate, Typed, Lapse, Fill, ForcedData, Cue, Kept, String, Other}
+use Rattle.console.specs.declared.lines.Call.the-variants.{Rate, Typed, Lapse, Fill, ForcedData, Cue, Kept, String, Bits, Frame, Other}
 
 -- the byte of an ASCII character
 abbrev pub is : Char → ℕ → Bool
@@ -103,6 +103,14 @@ keptIf false n = Other
 unfoldable pub keptCall : ℕ → Call
 keptCall n = keptIf (leb n 255) n
 
+-- B,room: the string that is kept as bits, with room for at most 64 bytes
+unfoldable pub bitsIf : Bool → ℕ → Call
+bitsIf true n = Bits n
+bitsIf false n = Other
+
+unfoldable pub bitsCall : ℕ → Call
+bitsCall n = bitsIf (leb n 64) n
+
 -- S,carrier,outbox,codes: a carrier flag 0 or 1, buffers at most 1,200 long
 unfoldable pub stringIf : Bool → ℕ → ℕ → ℕ → Call
 stringIf true carrier outbox codes = String (eqb carrier 1) outbox codes
@@ -111,20 +119,23 @@ stringIf false carrier outbox codes = Other
 unfoldable pub stringCall : ℕ → ℕ → ℕ → Call
 stringCall carrier outbox codes = stringIf (leb carrier 1 && (leb outbox 1200 && leb codes 1200)) carrier outbox codes
 
--- D alone; R or F and one number; T or W and two, with an outbox of 16 for T; in `tap --ext` T or S and three, and C or M and one number
-unfoldable pub bareCall : Bool → Call
-bareCall true = ForcedData
-bareCall false = Other
+-- D alone; R or F and one number; T or W and two, with an outbox of 16 for T; in `tap --ext` T or S and three, C, M or B and one number, and
+-- U alone
+unfoldable pub bareCall : Bool → Bool → Call
+bareCall true isU = ForcedData
+bareCall false true = Frame
+bareCall false false = Other
 
-unfoldable pub addedCall : Bool → Bool → ℕ → Call
-addedCall true isM n = cueCall n
-addedCall false true n = keptCall n
-addedCall false false n = Other
+unfoldable pub addedCall : Bool → Bool → Bool → ℕ → Call
+addedCall true isM isB n = cueCall n
+addedCall false true isB n = keptCall n
+addedCall false false true n = bitsCall n
+addedCall false false false n = Other
 
 unfoldable pub oneCall : Bool → Bool → Bool → ℕ → ℕ → Call
 oneCall true isF extended letter n = rateCall n
 oneCall false true extended letter n = fillCall extended n
-oneCall false false true letter n = addedCall (is "C" letter) (is "M" letter) n
+oneCall false false true letter n = addedCall (is "C" letter) (is "M" letter) (is "B" letter) n
 oneCall false false false letter n = Other
 
 unfoldable pub twoCall : Bool → Bool → ℕ → ℕ → Call
@@ -138,7 +149,7 @@ threeCall false true n m o = stringCall n m o
 threeCall false false n m o = Other
 
 unfoldable pub numbersCall : Bool → ℕ → List ℕ → Call
-numbersCall extended letter [] = bareCall (is "D" letter)
+numbersCall extended letter [] = bareCall (is "D" letter) (extended && is "U" letter)
 numbersCall extended letter (n ∷ []) = oneCall (is "R" letter) (is "F" letter) extended letter n
 numbersCall extended letter (n ∷ m ∷ []) = twoCall (is "T" letter) (is "W" letter) n m
 numbersCall extended letter (n ∷ m ∷ o ∷ []) = threeCall (extended && is "T" letter) (extended && is "S" letter) n m o

@@ -1,12 +1,12 @@
 // A reader of the programs' lines, R,rate / T,byte,carrier / W,ns,carrier / F,length / D, and of those
-// that `tap --ext` adds, C,position. It takes one byte at a time: a line may be as long as it likes, and
+// that `tap --ext` adds. It takes one byte at a time: a line may be as long as it likes, and
 // may come in any pieces.
 ghost use mathlib.Core.Path.{_≡_};
 ghost use mathlib.Core.Bool.{Bool, _&&_};
 ghost use mathlib.Core.List.{List, []};
 ghost use Prim.Native.Nat.{ℕ, _+_, _*_, min};
 ghost use lib.Dec.{ltb};
-ghost use Rattle.console.specs.Lines.{callOf, is, bareCall, oneCall, addedCall, twoCall, threeCall, rateCall, fillCall, cueCall, keptCall, stringCall, typedCall, lapseCall, longestOf};
+ghost use Rattle.console.specs.Lines.{callOf, is, bareCall, oneCall, addedCall, twoCall, threeCall, rateCall, fillCall, cueCall, keptCall, bitsCall, stringCall, typedCall, lapseCall, longestOf};
 ghost use Rattle.console.specs.Parser.{largest, spoiledOf, letterOf, digitOf, commaOf, nextOf, pushedOf, answerOf, parsedOf, readOf};
 
 // What a line asks for. A line that is none of these is `Other`.
@@ -34,6 +34,10 @@ pub enum Call {
         outbox: usize,
         codes: usize,
     },
+    // The string that is kept is read as bits, into a buffer of this length.
+    Bits(usize),
+    // The string that is kept is taken as one frame.
+    Frame,
     Other,
 }
 
@@ -102,7 +106,7 @@ impl Parser {
             return Call::Other;
         }
         if commas == 0 {
-            return bare(self.letter);
+            return bare(self.extended, self.letter);
         }
         if self.empty {
             return Call::Other;
@@ -235,11 +239,14 @@ fn overflows(number: u64, digit: u8) -> bool
 }
 
 // A letter and nothing else.
-fn bare(letter: u8) -> Call
-    ensures { λ r. ⌜ r ≡ bareCall (is "D" letter) ⌝ }
+fn bare(extended: bool, letter: u8) -> Call
+    ensures { λ r. ⌜ r ≡ bareCall (is "D" letter) (extended && is "U" letter) ⌝ }
 {
     if letter == b'D' {
         return Call::ForcedData;
+    }
+    if extended & (letter == b'U') {
+        return Call::Frame;
     }
     Call::Other
 }
@@ -261,13 +268,16 @@ fn one(extended: bool, letter: u8, number: u64) -> Call
 
 // The lines of one number that `tap --ext` adds.
 fn added(letter: u8, number: u64) -> Call
-    ensures { λ r. ⌜ r ≡ addedCall (is "C" letter) (is "M" letter) number ⌝ }
+    ensures { λ r. ⌜ r ≡ addedCall (is "C" letter) (is "M" letter) (is "B" letter) number ⌝ }
 {
     if letter == b'C' {
         return cue(number);
     }
     if letter == b'M' {
         return kept(number);
+    }
+    if letter == b'B' {
+        return bits(number);
     }
     Call::Other
 }
@@ -329,6 +339,15 @@ fn kept(byte: u64) -> Call
 {
     if byte <= 255 {
         return Call::Kept(byte as u8);
+    }
+    Call::Other
+}
+
+fn bits(room: u64) -> Call
+    ensures { λ r. ⌜ r ≡ bitsCall room ⌝ }
+{
+    if room <= 64 {
+        return Call::Bits(room as usize);
     }
     Call::Other
 }

@@ -1,3 +1,4 @@
 -- What the functions' proofs cite.
 mod Room
 mod Kept
+mod Ten

@@ -2,7 +2,7 @@
 use Prim.Native.Nat.{ℕ, _*_}
 use mathlib.Core.Bool.{Bool, true, false, _&&_}
 use mathlib.Core.List.{List, [], _∷_, _++_}
-use lib.Dec.{leb, ltb}
+use lib.Dec.{leb, ltb, eqb}
 use lib.ListN.{length}
 use Rattle.console.specs.declared.lines.Call.{Call}
 use Rattle.console.specs.declared.lines.Call.the-variants as call
@@ -23,6 +23,12 @@ use Rattle.set.specs.Set.{made, typed, lapsed, forced, fill}
 use Rattle.set.specs.String.{typedAll}
 use Rattle.cue.specs.declared.Cued.{Cued}
 use Rattle.cue.specs.Cue.{cueRefusalNumber, cued}
+use Rattle.deframe.specs.declared.Deframer.{Deframer}
+use Rattle.deframe.specs.declared.Deframer.the-variants.{Idle}
+use Rattle.deframe.specs.declared.Reading.{Reading}
+use Rattle.deframe.specs.declared.Unframed.{Unframed}
+use Rattle.deframe.specs.Read.{Read, marksOf, readOf, stopped}
+use Rattle.deframe.specs.Unframe.{unframeOf, unframedNumber}
 use Rattle.report.specs.declared.Report.{Report}
 use Rattle.report.specs.Report.{reportLine}
 use Rattle.panel.specs.declared.shown.Second.{Second}
@@ -73,26 +79,52 @@ cuedShown s a = shownOf s (cueRefusalNumber (a .refusal)) reply.None (second.Cue
 abbrev pub stringShown : ℕ → TypedAll → Shown
 stringShown n a = shownOf (a .set) (refusalNumber (a .refusal)) reply.None (second.String (a .sent) (ifAccepted (a .refusal) (3 * n) 0)) true
 
+-- the reader leaves the set, and is not declined
+abbrev pub bitsShown : Set → Reading → Shown
+bitsShown s a = shownOf s 0 reply.None (second.Bits (a .taken) (a .given)) true
+
+-- a frame leaves the set; a string of another length than ten prints nothing
+abbrev pub frameShown : Bool → Set → Unframed → Shown
+frameShown true s a = shownOf s (unframedNumber a) reply.None (second.Frame a) true
+frameShown false s a = nothingShown s
+
 -- a call that asks for more room than there is counts as another line: no line that is read does
 abbrev pub ifRoom : Bool → Set → Shown → Shown
 ifRoom true s shown = shown
 ifRoom false s shown = nothingShown s
 
--- R,rate / T,byte,carrier / W,ns,carrier / F,length / D, and of `tap --ext` C,position / M,byte / S,carrier,outbox,codes; with room for an outbox
--- of so many bytes, so many codes and so many samples, and with the string that is kept
-abbrev pub shownAfter : (bytes places samples : ℕ) (kept : List ℕ) → Set → Call → Shown
-shownAfter bytes places samples kept s (call.Rate rate) = madeShown (made rate)
-shownAfter bytes places samples kept s (call.Typed byte carrier outbox) = ifRoom (leb outbox bytes) s (typedShown (typed s byte carrier outbox))
-shownAfter bytes places samples kept s (call.Lapse ns carrier) = lapsedShown (lapsed s ns carrier)
-shownAfter bytes places samples kept s (call.Fill n) = ifRoom (leb n samples) s (filledShown n (fill s n))
-shownAfter bytes places samples kept s call.ForcedData = forcedShown (forced s)
-shownAfter bytes places samples kept s (call.Cue position) = cuedShown s (cued s position)
-shownAfter bytes places samples kept s (call.Kept byte) = nothingShown s
-shownAfter bytes places samples kept s (call.String carrier outbox codes) =
+-- R,rate / T,byte,carrier / W,ns,carrier / F,length / D, and of `tap --ext` C,position / M,byte / S,carrier,outbox,codes / B,room / U; with room for an outbox
+-- of so many bytes, so many codes and so many samples, with the string that is kept, and with what the reader made of it
+abbrev pub shownAfter : (bytes places samples : ℕ) (kept : List ℕ) (read : Reading) → Set → Call → Shown
+shownAfter bytes places samples kept read s (call.Rate rate) = madeShown (made rate)
+shownAfter bytes places samples kept read s (call.Typed byte carrier outbox) = ifRoom (leb outbox bytes) s (typedShown (typed s byte carrier outbox))
+shownAfter bytes places samples kept read s (call.Lapse ns carrier) = lapsedShown (lapsed s ns carrier)
+shownAfter bytes places samples kept read s (call.Fill n) = ifRoom (leb n samples) s (filledShown n (fill s n))
+shownAfter bytes places samples kept read s call.ForcedData = forcedShown (forced s)
+shownAfter bytes places samples kept read s (call.Cue position) = cuedShown s (cued s position)
+shownAfter bytes places samples kept read s (call.Kept byte) = nothingShown s
+shownAfter bytes places samples kept read s (call.String carrier outbox codes) =
     ifRoom (leb outbox bytes && leb codes places) s (stringShown (length kept) (typedAll s kept carrier outbox codes))
-shownAfter bytes places samples kept s call.Other = nothingShown s
+shownAfter bytes places samples kept read s (call.Bits room) = bitsShown s read
+shownAfter bytes places samples kept read s call.Frame = frameShown (eqb (length kept) 10) s (unframeOf (marksOf kept))
+shownAfter bytes places samples kept read s call.Other = nothingShown s
 
--- the string that is kept, with room for so many bytes: M adds a byte, or passes it over; S forgets it, declined or not; no other line changes it
+-- the reader that is kept: B has it read the string that is kept, with room for so many bytes; R sets it back; no other line changes it
+abbrev pub readAfter : (bytes : ℕ) (kept : List ℕ) → Deframer → Call → Read
+readAfter bytes kept p (call.Bits room) = either (leb room bytes) (readOf room p (marksOf kept)) (stopped p)
+readAfter bytes kept p (call.Rate rate) = stopped Idle
+readAfter bytes kept p (call.Typed byte carrier outbox) = stopped p
+readAfter bytes kept p (call.Lapse ns carrier) = stopped p
+readAfter bytes kept p (call.Fill n) = stopped p
+readAfter bytes kept p call.ForcedData = stopped p
+readAfter bytes kept p (call.Cue position) = stopped p
+readAfter bytes kept p (call.Kept byte) = stopped p
+readAfter bytes kept p (call.String carrier outbox codes) = stopped p
+readAfter bytes kept p call.Frame = stopped p
+readAfter bytes kept p call.Other = stopped p
+
+-- the string that is kept, with room for so many bytes: M adds a byte, or passes it over; S, B and U forget it, declined or not; no other line
+-- changes it
 abbrev pub keptWith : ℕ → List ℕ → ℕ → List ℕ
 keptWith room kept byte = either (ltb (length kept) room) (kept ++ (byte ∷ [])) kept
 
@@ -105,6 +137,8 @@ keptAfter room kept (call.Lapse ns carrier) = kept
 keptAfter room kept (call.Fill n) = kept
 keptAfter room kept call.ForcedData = kept
 keptAfter room kept (call.Cue position) = kept
+keptAfter room kept (call.Bits n) = []
+keptAfter room kept call.Frame = []
 keptAfter room kept call.Other = kept
 
 -- the line printed

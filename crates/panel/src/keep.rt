@@ -36,6 +36,8 @@ pub fn after(call: Call, kept: usize, string: &mut [u8]) -> usize
         Call::Fill(_) => kept,
         Call::ForcedData => kept,
         Call::Cue(_) => kept,
+        Call::Bits(_) => 0,
+        Call::Frame => 0,
         Call::Other => kept,
     }
 }

@@ -3,14 +3,17 @@
 use console::lines::Call;
 use console::lines::Parser;
 use console::lines::Pushed;
+use deframe::Deframer;
 use set::Set;
 use shown::Shown;
 ghost use mathlib.Core.Path.{_≡_};
 ghost use mathlib.Core.Bool.{false};
 ghost use lib.ListN.{length, take};
+ghost use Rattle.deframe.specs.Read.{answerOf};
 ghost use Rattle.text.specs.Text.{pageOf, addOf};
-ghost use Rattle.panel.specs.Wall.{shownAfter, keptAfter, lineOf};
+ghost use Rattle.panel.specs.Wall.{readAfter, shownAfter, keptAfter, lineOf};
 
+mod bits;
 mod keep;
 mod page;
 mod shown;
@@ -27,6 +30,8 @@ struct Panel {
     at: usize,
     // `tap --ext`: how long the string is that it keeps
     kept: usize,
+    // `tap --ext`: the reader's place
+    reader: Deframer,
     // the input has not ended, and nothing has failed
     open: bool,
 }
@@ -44,6 +49,7 @@ fn fresh(extended: bool, bits: bool) -> Panel {
     let made = Set::new(8000);
     let set = made.set;
     let parser = Parser::new(extended);
+    let reader = Deframer::new();
     Panel {
         set,
         parser,
@@ -51,6 +57,7 @@ fn fresh(extended: bool, bits: bool) -> Panel {
         bits,
         at: 0,
         kept: 0,
+        reader,
         open: true,
     }
 }
@@ -171,19 +178,23 @@ fn cannot_write(bits: bool) {
     os::fail(b"wall: standard output cannot be written");
 }
 
-// What a line leaves: the set after its call, the string that is kept, and, without `tap`'s second line, 01's line on the page.
+// What a line leaves: the set after its call, the string and the reader that are kept, and, without `tap`'s second line, 01's line on the page.
 fn perform(p: Panel, call: Call, string: &mut [u8], samples: &mut [f32], out: &mut [u8]) -> Panel
-    ensures { λ r. ⌜ r .set ≡ shownAfter 1200 1200 (length (now (samples .entry))) (take (p .kept) (now (string .entry))) (p .set) call .set ⌝ }
+    ensures { λ r. ⌜ r .set ≡ shownAfter 1200 1200 (length (now (samples .entry))) (take (p .kept) (now (string .entry))) (answerOf (readAfter 1200 (take (p .kept) (now (string .entry))) (p .reader) call)) (p .set) call .set ⌝ }
+    ensures { λ r. ⌜ r .reader ≡ readAfter 1200 (take (p .kept) (now (string .entry))) (p .reader) call .place ⌝ }
     ensures { λ r. ⌜ take (r .kept) (now (string .exit)) ≡ keptAfter (length (now (string .entry))) (take (p .kept) (now (string .entry))) call ⌝ }
-    ensures { λ r. ⌜ (p .bits ≡ false → pageOf (now (out .exit)) (r .at) ≡ addOf (pageOf (now (out .entry)) (p .at)) (lineOf (shownAfter 1200 1200 (length (now (samples .entry))) (take (p .kept) (now (string .entry))) (p .set) call))) ⌝ }
+    ensures { λ r. ⌜ (p .bits ≡ false → pageOf (now (out .exit)) (r .at) ≡ addOf (pageOf (now (out .entry)) (p .at)) (lineOf (shownAfter 1200 1200 (length (now (samples .entry))) (take (p .kept) (now (string .entry))) (answerOf (readAfter 1200 (take (p .kept) (now (string .entry))) (p .reader) call)) (p .set) call))) ⌝ }
 {
     let mut outbox = [0u8; 1200];
     let mut codes = [0u8; 1200];
     let from: usize = 0;
     let held = keep::held(p.kept, string);
+    let reader = p.reader;
+    let reading = bits::after(call, reader, &string[from..held], &mut outbox);
     let s = shown::after(
         p.set,
         call,
+        reading,
         &string[from..held],
         &mut outbox,
         &mut codes,
@@ -191,12 +202,14 @@ fn perform(p: Panel, call: Call, string: &mut [u8], samples: &mut [f32], out: &m
     );
     let kept = keep::after(call, p.kept, string);
     let set = s.set;
+    let place = reading.place;
     let first = shown::put_line(out, p.at, s);
     let second = put_second(p.bits, out, first, s, &outbox, &codes, samples);
     Panel {
         set,
         at: second,
         kept,
+        reader: place,
         ..p
     }
 }

@@ -1,6 +1,7 @@
 // `tap`'s second line, written on a page that is a buffer.
 use crate::shown::Second;
 use crate::shown::Shown;
+use deframe::Unframed;
 use set::Set;
 
 // What the call's second line tells.
@@ -31,6 +32,8 @@ fn put_second(
         Second::Sent(sent) => put_sent(out, at, set, outbox, sent),
         Second::Filled(n) => put_filled(out, at, set, outbox, samples, n),
         Second::Cued(sample) => put_cue(out, at, sample),
+        Second::Bits { taken, given } => put_bits_read(out, at, outbox, taken, given),
+        Second::Frame(answer) => put_frame(out, at, answer),
         Second::String { sent, places } => put_string(out, at, set, outbox, sent, codes, places),
     }
 }
@@ -72,6 +75,23 @@ fn put_string(
 fn put_cue(out: &mut [u8], at: usize, sample: u64) -> usize {
     let k = text::put(out, at, b"# cue=");
     text::put_decimal(out, k, sample)
+}
+
+// How many bits were taken, and the bytes given.
+fn put_bits_read(out: &mut [u8], at: usize, bytes: &[u8], taken: usize, given: usize) -> usize {
+    let k = text::put(out, at, b"# taken=");
+    let l = text::put_decimal(out, k, taken as u64);
+    let m = text::put(out, l, b" given=");
+    put_front(out, m, bytes, given)
+}
+
+// The byte of a frame.
+fn put_frame(out: &mut [u8], at: usize, answer: Unframed) -> usize {
+    let k = text::put(out, at, b"# byte=");
+    match answer {
+        Unframed::Byte(byte) => text::put_hex(out, k, byte as u64, 2),
+        Unframed::BadFrame => text::put_byte(out, k, b'-'),
+    }
 }
 
 fn put_ring(out: &mut [u8], at: usize, set: Set) -> usize {

@@ -1,19 +1,24 @@
 // A line's call on the set, with what is printed of its answer.
+use crate::bits;
 use console::lines::Call;
+use deframe::Reading;
+use deframe::Unframed;
 use reply::Reply;
 use report::Report;
 use set::Set;
 ghost use mathlib.Core.Path.{_≡_};
 ghost use Prim.Native.Nat.{_*_, _≤_};
 ghost use mathlib.Core.Bool.{true, _&&_};
-ghost use lib.Dec.{leb};
+ghost use lib.Dec.{leb, eqb};
 ghost use lib.ListN.{length};
 ghost use Rattle.text.specs.Text.{pageOf, addOf};
 ghost use Rattle.set.specs.Set.{made, typed, lapsed, forced, fill};
 ghost use Rattle.set.specs.Refusals.{either};
 ghost use Rattle.set.specs.String.{typedAll};
+ghost use Rattle.deframe.specs.Read.{marksOf};
+ghost use Rattle.deframe.specs.Unframe.{unframeOf};
 ghost use Rattle.cue.specs.Cue.{cued};
-ghost use Rattle.panel.specs.Wall.{shownOf, nothingShown, madeShown, typedShown, lapsedShown, forcedShown, filledShown, cuedShown, stringShown, ifRoom, shownAfter, lineOf};
+ghost use Rattle.panel.specs.Wall.{shownOf, nothingShown, madeShown, typedShown, lapsedShown, forcedShown, filledShown, cuedShown, stringShown, bitsShown, frameShown, ifRoom, shownAfter, lineOf};
 
 // What `tap`'s second line tells of a call.
 pub enum Second {
@@ -25,6 +30,10 @@ pub enum Second {
     Cued(u64),
     // the ring, and how many bytes of the outbox and places of the code buffer were filled
     String { sent: usize, places: usize },
+    // how many bits were taken, and how many bytes of the outbox filled
+    Bits { taken: usize, given: usize },
+    // a frame's byte, or none
+    Frame(Unframed),
 }
 
 pub struct Shown {
@@ -38,12 +47,13 @@ pub struct Shown {
 pub fn after(
     set: Set,
     call: Call,
+    reading: Reading,
     string: &[u8],
     outbox: &mut [u8],
     codes: &mut [u8],
     samples: &mut [f32],
 ) -> Shown
-    ensures { λ r. ⌜ r ≡ shownAfter (length (now (outbox .entry))) (length (now (codes .entry))) (length (now (samples .entry))) (now (string .entry)) set call ⌝ }
+    ensures { λ r. ⌜ r ≡ shownAfter (length (now (outbox .entry))) (length (now (codes .entry))) (length (now (samples .entry))) (now (string .entry)) reading set call ⌝ }
 {
     match call {
         Call::Rate(rate) => made(rate),
@@ -62,6 +72,8 @@ pub fn after(
             outbox: n,
             codes: places,
         } => typed_all(set, string, carrier, n, places, outbox, codes),
+        Call::Bits(_) => bits_read(set, reading),
+        Call::Frame => framed(set, string),
         Call::Other => nothing(set),
     }
 }
@@ -228,6 +240,37 @@ fn used(accepted: bool, string: &[u8]) -> usize
         return 3 * string.len();
     }
     0
+}
+
+// The reader leaves the set as it was.
+fn bits_read(set: Set, reading: Reading) -> Shown
+    ensures { λ r. ⌜ r ≡ bitsShown set reading ⌝ }
+{
+    let taken = reading.taken;
+    let given = reading.given;
+    show(set, 0, Reply::None, Second::Bits { taken, given }, true)
+}
+
+// A string of ten is a frame or is declined; one of another length is no call.
+fn framed(set: Set, string: &[u8]) -> Shown
+    ensures { λ r. ⌜ r ≡ frameShown (eqb (length (now (string .entry))) 10) set (unframeOf (marksOf (now (string .entry)))) ⌝ }
+{
+    if string.len() == 10 {
+        return unframed(set, deframe::unframe(bits::ten(string)));
+    }
+    nothing(set)
+}
+
+fn unframed(set: Set, answer: Unframed) -> Shown
+    ensures { λ r. ⌜ r ≡ frameShown true set answer ⌝ }
+{
+    show(
+        set,
+        answer.number(),
+        Reply::None,
+        Second::Frame(answer),
+        true,
+    )
 }
 
 fn nothing(set: Set) -> Shown

@@ -1,4 +1,4 @@
--- `console::lines::added` meets its contract: by the letter, C, M or another. Assumes nothing.
+-- `console::lines::added` meets its contract: by the letter, C, M, B or another. Assumes nothing.
 use borrow.Author.Needs.{needs}
 use borrow.Author.Tests.{eq-eqb, ne-eqb}
 use Rattle.console.specs.Lines.{addedCall}
@@ -19,9 +19,17 @@ returns-2 : tie.Need-returns-2
 unfolding addedCall
 returns-2 c = rw (ne-eqb _ _ (c .before .before .if1 .left), eq-eqb _ _ (c .before .if2 .taken)) (c .kept .ensures)
 
+bits-requires : tie.Need-bits-requires
+bits-requires c κs = search needs
+
 returns-3 : tie.Need-returns-3
 unfolding addedCall
-returns-3 c = rw (ne-eqb _ _ (c .before .if1 .left), ne-eqb _ _ (c .if2 .left))
+returns-3 c =
+    rw (ne-eqb _ _ (c .before .before .before .if1 .left), ne-eqb _ _ (c .before .before .if2 .left), eq-eqb _ _ (c .before .if3 .taken)) (c .bits .ensures)
+
+returns-4 : tie.Need-returns-4
+unfolding addedCall
+returns-4 c = rw (ne-eqb _ _ (c .before .before .if1 .left), ne-eqb _ _ (c .before .if2 .left), ne-eqb _ _ (c .if3 .left))
 
 pub added-spec : {M : Type 1} → statement M
-added-spec = tie.close (tie.spec cue-requires returns kept-requires returns-2 returns-3)
+added-spec = tie.close (tie.spec cue-requires returns kept-requires returns-2 bits-requires returns-3 returns-4)

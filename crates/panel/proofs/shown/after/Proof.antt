@@ -54,6 +54,18 @@ typed-all-requires c κs = search needs
 enum-told-3 : tie.Need-enum-told-3
 enum-told-3 c = search needs
 
+bits-read-requires : tie.Need-bits-read-requires
+bits-read-requires c κs = search needs
+
+enum-told-4 : tie.Need-enum-told-4
+enum-told-4 c = search needs
+
+framed-requires : tie.Need-framed-requires
+framed-requires c κs = search needs
+
+enum-told-5 : tie.Need-enum-told-5
+enum-told-5 c = search needs
+
 nothing-requires-2 : tie.Need-nothing-requires-2
 nothing-requires-2 c κs = search needs
 
@@ -94,7 +106,13 @@ returns-8 : tie.Need-returns-8
 returns-8 c = rw (c .before .before .before .before .before .before .before .before .call6 .given .1) (c .before .before .before .before .typed-all .ensures)
 
 returns-9 : tie.Need-returns-9
-returns-9 c = rw (c .before .enum-told3 .given .1) (c .nothing2 .ensures)
+returns-9 c = rw (c .before .enum-told3 .given .1) (c .bits-read .ensures)
+
+returns-10 : tie.Need-returns-10
+returns-10 c = rw (c .before .enum-told4 .given .1) (c .framed .ensures)
+
+returns-11 : tie.Need-returns-11
+returns-11 c = rw (c .before .enum-told5 .given .1) (c .nothing2 .ensures)
 
 pub after-spec : {M : Type 1} → statement M
 after-spec =
@@ -117,6 +135,10 @@ after-spec =
     enum-known-call-6
     typed-all-requires
     enum-told-3
+    bits-read-requires
+    enum-told-4
+    framed-requires
+    enum-told-5
     nothing-requires-2
     returns
     same-length
@@ -130,4 +152,6 @@ after-spec =
     same-length-3
     same-length-4
     returns-8
-    returns-9)
+    returns-9
+    returns-10
+    returns-11)
