@@ -30,6 +30,11 @@ pub struct Session {
     pub stage: StageState,
 }
 
+// What a fill answers: the session after it.
+pub struct Filled {
+    pub session: Session,
+}
+
 impl SessionState {
     // 01's number.
     pub fn number(self) -> u8
@@ -173,8 +178,8 @@ impl Session {
     }
 
     // A fill in Dialling: the overture's next samples.
-    fn perform(self, rate: u32, out: &mut [f32]) -> Session
-        ensures { λ r. ⌜ r ≡ filledIn Dialling self (length (now (out .entry))) rate ⌝ }
+    fn perform(self, rate: u32, out: &mut [f32]) -> Filled
+        ensures { λ r. ⌜ r .session ≡ filledIn Dialling self (length (now (out .entry))) rate ⌝ }
         ensures { λ _. ⌜ now (out .exit) ≡ writtenIn Dialling self (length (now (out .entry))) rate ⌝ }
     {
         let digits = self.digits;
@@ -186,12 +191,13 @@ impl Session {
         let w = overture::read(stage, &keys[from..len], rate, out);
         let shown = w.shown;
         let next = w.state;
-        self.showing(shown, b, next)
+        let session = self.showing(shown, b, next);
+        Filled { session }
     }
 
     // A fill. In Connected, which 01 declines before it comes here, it writes zeros.
-    pub fn process_out(self, rate: u32, out: &mut [f32]) -> Session
-        ensures { λ r. ⌜ r ≡ filled self (length (now (out .entry))) rate ⌝ }
+    pub fn process_out(self, rate: u32, out: &mut [f32]) -> Filled
+        ensures { λ r. ⌜ r .session ≡ filled self (length (now (out .entry))) rate ⌝ }
         ensures { λ _. ⌜ now (out .exit) ≡ written self (length (now (out .entry))) rate ⌝ }
     {
         let state = self.state;
@@ -199,15 +205,15 @@ impl Session {
             SessionState::Dialling => self.perform(rate, out),
             SessionState::Idle => {
                 overture::silence(out);
-                self
+                Filled { session: self }
             }
             SessionState::Answering => {
                 overture::silence(out);
-                self
+                Filled { session: self }
             }
             SessionState::Connected => {
                 overture::silence(out);
-                self
+                Filled { session: self }
             }
         }
     }

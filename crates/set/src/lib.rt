@@ -393,7 +393,8 @@ impl Set {
         let session = self.session;
         let refusal = self.fill_cause(out.len());
         if refusal.accepted() {
-            let next = session.process_out(self.rate, out);
+            let filled = session.process_out(self.rate, out);
+            let next = filled.session;
             return Filled {
                 set: Set {
                     session: next,
