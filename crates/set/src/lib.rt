@@ -3,6 +3,7 @@
 use at::AtProcessor;
 use command::Line;
 use keys::Digits;
+use keys::Lit;
 use reply::Reply;
 use session::Session;
 use session::SessionState;
@@ -93,6 +94,8 @@ pub struct Forced {
 pub struct Filled {
     pub set: Set,
     pub refusal: Refusal,
+    // that of the last sample
+    pub key: Lit,
 }
 
 pub struct Rung {
@@ -395,15 +398,21 @@ impl Set {
         if refusal.accepted() {
             let filled = session.process_out(self.rate, out);
             let next = filled.session;
+            let key = filled.key;
             return Filled {
                 set: Set {
                     session: next,
                     ..self
                 },
                 refusal,
+                key,
             };
         }
-        Filled { set: self, refusal }
+        Filled {
+            set: self,
+            refusal,
+            key: Lit::None,
+        }
     }
 
     pub fn ring_number(self) -> Rung

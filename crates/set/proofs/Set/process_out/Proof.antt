@@ -23,7 +23,7 @@ returns c =
     let v = c .before .before .before .before .before .before .before .accepted .ensures in
     let t = c .before .before .before .before .before .before .if1 .taken in
     let p = c .before .before .before .before .process-out .ensures in
-    (rw (← u, ← v, t, p .0), rw (← u, ← v, t) (p .1))
+    (rw (← u, ← v, t, p .0, p .1 .0), rw (← u, ← v, t) (p .1 .1))
 
 returns-2 : tie.Need-returns-2
 unfolding fill buffer
