@@ -3,7 +3,7 @@ use Prim.Native.String.{String}
 use mathlib.Core.Bool.{true, false}
 use mathlib.Core.Path.{_≡_, refl}
 use Rattle.console.specs.declared.lines.Call.{Call}
-use Rattle.console.specs.declared.lines.Call.the-variants.{Rate, Typed, Lapse, Fill, ForcedData, Cue, Kept, String as string, Other}
+use Rattle.console.specs.declared.lines.Call.the-variants.{Rate, Typed, Lapse, Fill, ForcedData, Cue, Kept, String as string, Key, Other}
 use Rattle.console.specs.Lines.{cut, fieldsOf, allDigits, valueFrom, numberIf, numberOf, also, numbersOf, fillIf, fillCall, typedIf, typedCall, lapseIf, lapseCall, cueIf, cueCall, keptIf, keptCall, stringIf, stringCall, bareCall, addedCall, oneCall, twoCall, threeCall, numbersCall, letterCall, fieldsCall, callOf}
 use Rattle.ascii.specs.Ascii.{ascii}
 
@@ -25,9 +25,10 @@ calls : (plain "R,8000" ≡ Rate 8000)
     × (extended "C,255" ≡ Cue 255)
     × (extended "M,13" ≡ Kept 13)
     × (extended "S,1,1200,0" ≡ string true 1200 0)
+    × (extended "K" ≡ Key)
     × (plain "R,99999999999999999999999" ≡ Rate 4294967295)
 unfolding plain extended cut fieldsOf allDigits valueFrom numberIf numberOf also numbersOf fillIf fillCall typedIf typedCall lapseIf lapseCall cueIf cueCall keptIf keptCall stringIf stringCall bareCall addedCall oneCall twoCall threeCall numbersCall letterCall fieldsCall callOf
-calls = (refl, refl, refl, refl, refl, refl, refl, refl, refl, refl, refl, refl)
+calls = (refl, refl, refl, refl, refl, refl, refl, refl, refl, refl, refl, refl, refl)
 
 others : (plain "" ≡ Other)
     × (plain "R," ≡ Other)
@@ -53,5 +54,7 @@ others : (plain "" ≡ Other)
     × (extended "S,2,4,2" ≡ Other)
     × (extended "S,0,1201,2" ≡ Other)
     × (extended "S,0,4,1201" ≡ Other)
+    × (plain "K" ≡ Other)
+    × (extended "K,0" ≡ Other)
 unfolding plain extended cut fieldsOf allDigits valueFrom numberIf numberOf also numbersOf fillIf fillCall typedIf typedCall lapseIf lapseCall cueIf cueCall keptIf keptCall stringIf stringCall bareCall addedCall oneCall twoCall threeCall numbersCall letterCall fieldsCall callOf
-others = (refl, refl, refl, refl, refl, refl, refl, refl, refl, refl, refl, refl, refl, refl, refl, refl, refl, refl, refl, refl, refl, refl, refl, refl)
+others = (refl, refl, refl, refl, refl, refl, refl, refl, refl, refl, refl, refl, refl, refl, refl, refl, refl, refl, refl, refl, refl, refl, refl, refl, refl, refl)

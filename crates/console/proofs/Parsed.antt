@@ -2,7 +2,7 @@
 -- It goes through the fields in order (`by-fields`), and of each later one it keeps the number or is of no use from there on (`Taken`). Assumes nothing.
 use Prim.Native.Char.{code}
 use Prim.Native.Nat.{ℕ, _+_, _-_, _*_, _<_, _≤_}
-use mathlib.Core.Bool.{Bool, true, false, _||_, and-eq-true-iff}
+use mathlib.Core.Bool.{Bool, true, false, _&&_, _||_, and-eq-true-iff}
 use mathlib.Core.List.{List, [], _∷_, _++_, foldl, foldl-append}
 use mathlib.Core.Option.{Option, some, none}
 use mathlib.Core.Path.{_≡_, refl, ap, sym, _∙_}
@@ -167,7 +167,7 @@ module _ (x : Bool) (letter : ℕ) where
   first f (g ∷ gs) (nothing e a c) = rw e (lost gs _ g c)
 
 -- ---- the first field
-bare-letter : (x : Bool) (letter : ℕ) → answerOf (foldl plainOf (freshOf x) (letter ∷ [])) ≡ bareCall (is "D" letter)
+bare-letter : (x : Bool) (letter : ℕ) → answerOf (foldl plainOf (freshOf x) (letter ∷ [])) ≡ bareCall (is "D" letter) (x && is "K" letter)
 unfolding freshOf plainOf plainIf letterOf letterIf answerOf answerIf
 bare-letter x letter = refl
 
@@ -181,7 +181,8 @@ no-letter x = refl
 
 no-line : (x : Bool) → answerOf (freshOf x) ≡ Other
 unfolding freshOf answerOf answerIf bareCall
-no-line x = refl
+no-line true = refl
+no-line false = refl
 
 two-letters : (x : Bool) (letter b : ℕ) → plainOf (plainOf (freshOf x) letter) b .other ≡ true
 unfolding freshOf plainOf plainIf letterOf letterIf spoiledOf

@@ -7,7 +7,7 @@ use mathlib.Core.List.{List, [], _∷_}
 use mathlib.Core.Option.{Option, some, none}
 use lib.Dec.{leb, ltb, eqb}
 use Rattle.console.specs.declared.lines.Call.{Call}
-use Rattle.console.specs.declared.lines.Call.the-variants.{Rate, Typed, Lapse, Fill, ForcedData, Cue, Kept, String, Other}
+use Rattle.console.specs.declared.lines.Call.the-variants.{Rate, Typed, Lapse, Fill, ForcedData, Cue, Kept, String, Key, Other}
 
 -- the byte of an ASCII character
 abbrev pub is : Char → ℕ → Bool
@@ -111,10 +111,12 @@ stringIf false carrier outbox codes = Other
 unfoldable pub stringCall : ℕ → ℕ → ℕ → Call
 stringCall carrier outbox codes = stringIf (leb carrier 1 && (leb outbox 1200 && leb codes 1200)) carrier outbox codes
 
--- D alone; R or F and one number; T or W and two, with an outbox of 16 for T; in `tap --ext` T or S and three, and C or M and one number
-unfoldable pub bareCall : Bool → Call
-bareCall true = ForcedData
-bareCall false = Other
+-- D alone, and in `tap --ext` K; R or F and one number; T or W and two, with an outbox of 16 for T; in `tap --ext` T or S and three, and C or M and one
+-- number
+unfoldable pub bareCall : Bool → Bool → Call
+bareCall true isK = ForcedData
+bareCall false true = Key
+bareCall false false = Other
 
 unfoldable pub addedCall : Bool → Bool → ℕ → Call
 addedCall true isM n = cueCall n
@@ -138,7 +140,7 @@ threeCall false true n m o = stringCall n m o
 threeCall false false n m o = Other
 
 unfoldable pub numbersCall : Bool → ℕ → List ℕ → Call
-numbersCall extended letter [] = bareCall (is "D" letter)
+numbersCall extended letter [] = bareCall (is "D" letter) (extended && is "K" letter)
 numbersCall extended letter (n ∷ []) = oneCall (is "R" letter) (is "F" letter) extended letter n
 numbersCall extended letter (n ∷ m ∷ []) = twoCall (is "T" letter) (is "W" letter) n m
 numbersCall extended letter (n ∷ m ∷ o ∷ []) = threeCall (extended && is "T" letter) (extended && is "S" letter) n m o

@@ -1,5 +1,5 @@
 // A reader of the programs' lines, R,rate / T,byte,carrier / W,ns,carrier / F,length / D, and of those
-// that `tap --ext` adds, C,position. It takes one byte at a time: a line may be as long as it likes, and
+// that `tap --ext` adds, C,position and K among them. It takes one byte at a time: a line may be as long as it likes, and
 // may come in any pieces.
 ghost use mathlib.Core.Path.{_≡_};
 ghost use mathlib.Core.Bool.{Bool, _&&_};
@@ -34,6 +34,8 @@ pub enum Call {
         outbox: usize,
         codes: usize,
     },
+    // The key that the last fill answered.
+    Key,
     Other,
 }
 
@@ -102,7 +104,7 @@ impl Parser {
             return Call::Other;
         }
         if commas == 0 {
-            return bare(self.letter);
+            return bare(self.extended, self.letter);
         }
         if self.empty {
             return Call::Other;
@@ -235,11 +237,14 @@ fn overflows(number: u64, digit: u8) -> bool
 }
 
 // A letter and nothing else.
-fn bare(letter: u8) -> Call
-    ensures { λ r. ⌜ r ≡ bareCall (is "D" letter) ⌝ }
+fn bare(extended: bool, letter: u8) -> Call
+    ensures { λ r. ⌜ r ≡ bareCall (is "D" letter) (extended && is "K" letter) ⌝ }
 {
     if letter == b'D' {
         return Call::ForcedData;
+    }
+    if extended & (letter == b'K') {
+        return Call::Key;
     }
     Call::Other
 }

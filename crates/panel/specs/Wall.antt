@@ -6,6 +6,8 @@ use lib.Dec.{leb, ltb}
 use lib.ListN.{length}
 use Rattle.console.specs.declared.lines.Call.{Call}
 use Rattle.console.specs.declared.lines.Call.the-variants as call
+use Rattle.keys.specs.declared.Lit.{Lit}
+use Rattle.keys.specs.declared.Lit.the-variants as lit
 use Rattle.reply.specs.declared.Reply.{Reply}
 use Rattle.reply.specs.declared.Reply.the-variants as reply
 use Rattle.reply.specs.Codes.{firstOf, secondOf}
@@ -51,7 +53,7 @@ nothingShown s = shownOf s 0 reply.None (second.Sent 0) false
 
 -- the set's answers: creation, forced data and a fill have no reply, and a typed byte alone sends
 abbrev pub madeShown : Made → Shown
-madeShown a = shownOf (a .set) (refusalNumber (a .refusal)) reply.None (second.Sent 0) true
+madeShown a = shownOf (a .set) (refusalNumber (a .refusal)) reply.None second.Made true
 
 abbrev pub typedShown : Typed → Shown
 typedShown a = shownOf (a .set) (refusalNumber (a .refusal)) (a .reply) (second.Sent (a .sent)) true
@@ -63,22 +65,26 @@ abbrev pub forcedShown : Forced → Shown
 forcedShown a = shownOf (a .set) (refusalNumber (a .refusal)) reply.None (second.Sent 0) true
 
 abbrev pub filledShown : ℕ → Filled → Shown
-filledShown length a = shownOf (a .set) (refusalNumber (a .refusal)) reply.None (second.Filled length) true
+filledShown length a = shownOf (a .set) (refusalNumber (a .refusal)) reply.None (second.Filled length (a .key)) true
 
 -- a cue leaves the set
 abbrev pub cuedShown : Set → Cued → Shown
-cuedShown s a = shownOf s (cueRefusalNumber (a .refusal)) reply.None (second.Cued (a .sample)) true
+cuedShown s a = shownOf s (cueRefusalNumber (a .refusal)) reply.None (second.Cued (a .sample) (a .key)) true
 
 -- a string has no codes of its own: those of its n bytes fill two places each, where it is not declined
 abbrev pub stringShown : ℕ → TypedAll → Shown
 stringShown n a = shownOf (a .set) (refusalNumber (a .refusal)) reply.None (second.String (a .sent) (ifAccepted (a .refusal) (2 * n) 0)) true
+
+-- 02, E8: the key that the last fill answered leaves the set
+abbrev pub litShown : Set → Shown
+litShown s = shownOf s 0 reply.None second.Lit true
 
 -- a call that asks for more room than there is counts as another line: no line that is read does
 abbrev pub ifRoom : Bool → Set → Shown → Shown
 ifRoom true s shown = shown
 ifRoom false s shown = nothingShown s
 
--- R,rate / T,byte,carrier / W,ns,carrier / F,length / D, and of `tap --ext` C,position / M,byte / S,carrier,outbox,codes; with room for an outbox
+-- R,rate / T,byte,carrier / W,ns,carrier / F,length / D, and of `tap --ext` C,position / M,byte / S,carrier,outbox,codes / K; with room for an outbox
 -- of so many bytes, so many codes and so many samples, and with the string that is kept
 abbrev pub shownAfter : (bytes places samples : ℕ) (kept : List ℕ) → Set → Call → Shown
 shownAfter bytes places samples kept s (call.Rate rate) = madeShown (made rate)
@@ -90,6 +96,7 @@ shownAfter bytes places samples kept s (call.Cue position) = cuedShown s (cued s
 shownAfter bytes places samples kept s (call.Kept byte) = nothingShown s
 shownAfter bytes places samples kept s (call.String carrier outbox codes) =
     ifRoom (leb outbox bytes && leb codes places) s (stringShown (length kept) (typedAll s kept carrier outbox codes))
+shownAfter bytes places samples kept s call.Key = litShown s
 shownAfter bytes places samples kept s call.Other = nothingShown s
 
 -- the string that is kept, with room for so many bytes: M adds a byte, or passes it over; S forgets it, declined or not; no other line changes it
@@ -105,7 +112,17 @@ keptAfter room kept (call.Lapse ns carrier) = kept
 keptAfter room kept (call.Fill n) = kept
 keptAfter room kept call.ForcedData = kept
 keptAfter room kept (call.Cue position) = kept
+keptAfter room kept call.Key = kept
 keptAfter room kept call.Other = kept
+
+-- the key that is kept: that which the last fill answered; none after R
+abbrev pub litAfter : Lit → Second → Lit
+litAfter was (second.Filled n key) = key
+litAfter was second.Made = lit.None
+litAfter was (second.Sent sent) = was
+litAfter was (second.Cued sample key) = was
+litAfter was (second.String sent places) = was
+litAfter was second.Lit = was
 
 -- the line printed
 abbrev pub lineIf : Bool → Report → List ℕ

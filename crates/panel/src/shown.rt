@@ -1,5 +1,6 @@
 // A line's call on the set, with what is printed of its answer.
 use console::lines::Call;
+use keys::Lit;
 use reply::Reply;
 use report::Report;
 use set::Set;
@@ -13,18 +14,22 @@ ghost use Rattle.set.specs.Set.{made, typed, lapsed, forced, fill};
 ghost use Rattle.set.specs.Refusals.{either};
 ghost use Rattle.set.specs.String.{typedAll};
 ghost use Rattle.cue.specs.Cue.{cued};
-ghost use Rattle.panel.specs.Wall.{shownOf, nothingShown, madeShown, typedShown, lapsedShown, forcedShown, filledShown, cuedShown, stringShown, ifRoom, shownAfter, lineOf};
+ghost use Rattle.panel.specs.Wall.{shownOf, nothingShown, madeShown, typedShown, lapsedShown, forcedShown, filledShown, cuedShown, stringShown, litShown, ifRoom, shownAfter, lineOf};
 
 // What `tap`'s second line tells of a call.
 pub enum Second {
     // the ring, and how many bytes of the outbox were filled
     Sent(usize),
-    // the ring, and how many samples were filled
-    Filled(usize),
-    // the cue's sample
-    Cued(u64),
+    // the same of a set that was made
+    Made,
+    // the ring, and how many samples were filled; the key of the last is kept
+    Filled { n: usize, key: Lit },
+    // the cue's sample and its key
+    Cued { sample: u64, key: Lit },
     // the ring, and how many bytes of the outbox and places of the code buffer were filled
     String { sent: usize, places: usize },
+    // the key that is kept
+    Lit,
 }
 
 pub struct Shown {
@@ -62,6 +67,7 @@ pub fn after(
             outbox: n,
             codes: places,
         } => typed_all(set, string, carrier, n, places, outbox, codes),
+        Call::Key => lit(set),
         Call::Other => nothing(set),
     }
 }
@@ -83,7 +89,7 @@ fn made(rate: u32) -> Shown
     let a = Set::new(rate);
     let set = a.set;
     let refusal = a.refusal;
-    show(set, refusal.number(), Reply::None, Second::Sent(0), true)
+    show(set, refusal.number(), Reply::None, Second::Made, true)
 }
 
 // Into the outbox's first `n` bytes.
@@ -146,7 +152,14 @@ fn fill(set: Set, samples: &mut [f32]) -> Shown
     let a = set.process_out(samples);
     let next = a.set;
     let refusal = a.refusal;
-    show(next, refusal.number(), Reply::None, Second::Filled(n), true)
+    let key = a.key;
+    show(
+        next,
+        refusal.number(),
+        Reply::None,
+        Second::Filled { n, key },
+        true,
+    )
 }
 
 // A value that no call writes shows which samples a refused fill leaves alone.
@@ -165,11 +178,12 @@ fn cued(set: Set, position: u8) -> Shown
     let a = cue::cue(set, position as u32);
     let refusal = a.refusal;
     let sample = a.sample;
+    let key = a.key;
     show(
         set,
         refusal.number(),
         Reply::None,
-        Second::Cued(sample),
+        Second::Cued { sample, key },
         true,
     )
 }
@@ -227,6 +241,13 @@ fn used(accepted: bool, string: &[u8]) -> usize
         return 2 * string.len();
     }
     0
+}
+
+// No call is made.
+fn lit(set: Set) -> Shown
+    ensures { λ r. ⌜ r ≡ litShown set ⌝ }
+{
+    show(set, 0, Reply::None, Second::Lit, true)
 }
 
 fn nothing(set: Set) -> Shown

@@ -33,6 +33,9 @@ enum-told-7 c = search needs
 enum-told-8 : tie.Need-enum-told-8
 enum-told-8 c = search needs
 
+enum-told-9 : tie.Need-enum-told-9
+enum-told-9 c = search needs
+
 same-length : tie.Need-same-length
 same-length c = search needs
 
@@ -63,6 +66,9 @@ returns-8 c = rw (c .enum-told7 .given .1)
 returns-9 : tie.Need-returns-9
 returns-9 c = rw (c .enum-told8 .given .1)
 
+returns-10 : tie.Need-returns-10
+returns-10 c = rw (c .enum-told9 .given .1)
+
 pub after-spec : {M : Type 1} → statement M
 after-spec =
     tie.close
@@ -77,6 +83,7 @@ after-spec =
     enum-told-6
     enum-told-7
     enum-told-8
+    enum-told-9
     same-length
     returns
     returns-2
@@ -86,4 +93,5 @@ after-spec =
     returns-6
     returns-7
     returns-8
-    returns-9)
+    returns-9
+    returns-10)

@@ -54,6 +54,12 @@ typed-all-requires c κs = search needs
 enum-told-3 : tie.Need-enum-told-3
 enum-told-3 c = search needs
 
+lit-requires : tie.Need-lit-requires
+lit-requires c κs = search needs
+
+enum-told-4 : tie.Need-enum-told-4
+enum-told-4 c = search needs
+
 nothing-requires-2 : tie.Need-nothing-requires-2
 nothing-requires-2 c κs = search needs
 
@@ -94,7 +100,10 @@ returns-8 : tie.Need-returns-8
 returns-8 c = rw (c .before .before .before .before .before .before .before .before .call6 .given .1) (c .before .before .before .before .typed-all .ensures)
 
 returns-9 : tie.Need-returns-9
-returns-9 c = rw (c .before .enum-told3 .given .1) (c .nothing2 .ensures)
+returns-9 c = rw (c .before .enum-told3 .given .1) (c .lit .ensures)
+
+returns-10 : tie.Need-returns-10
+returns-10 c = rw (c .before .enum-told4 .given .1) (c .nothing2 .ensures)
 
 pub after-spec : {M : Type 1} → statement M
 after-spec =
@@ -117,6 +126,8 @@ after-spec =
     enum-known-call-6
     typed-all-requires
     enum-told-3
+    lit-requires
+    enum-told-4
     nothing-requires-2
     returns
     same-length
@@ -130,4 +141,5 @@ after-spec =
     same-length-3
     same-length-4
     returns-8
-    returns-9)
+    returns-9
+    returns-10)
