@@ -3,7 +3,7 @@
 //!
 //! oracle [--bits] [--ext] < lines
 //!
-//! --bits adds a line to each answer: ring, bytes sent and, for a fill, its samples; for a cue, its sample; for a string, its codes.
+//! --bits adds a line to each answer: ring, bytes sent and, for a fill, its samples; for a cue, its sample and key; for a string, its codes; for K, the key that is lit.
 //! --ext lets T lines give the outbox length and fills be longer than `wall` allows, and adds the lines of 02.
 
 // The Rust is compiled as it is; what 01 leaves out of it is never called.
@@ -14,6 +14,7 @@ include!("rust.rs");
 mod lines;
 
 use lines::{read_line, Call};
+use lit::Key;
 use set::{Answer, Set};
 use std::io::{self, BufRead, BufReader, BufWriter, Write};
 
@@ -21,8 +22,9 @@ use std::io::{self, BufRead, BufReader, BufWriter, Write};
 enum Second {
     Sent,
     Filled(Vec<f32>),
-    Cued(u64),
+    Cued(u64, Option<Key>),
     Coded(Vec<u8>),
+    Lit(Option<Key>),
 }
 
 /// What a buffer holds before its fill, so that a declined one can be told.
@@ -92,7 +94,8 @@ fn perform(set: &mut Set, kept: &mut Vec<u8>, call: Call) -> Option<(Answer, Sec
         }
         Call::Cue { position } => {
             let (answer, sample) = set.cue(position);
-            (answer, Second::Cued(sample))
+            let key = if answer.refusal == 0 { set.session.key_of(position) } else { None };
+            (answer, Second::Cued(sample, key))
         }
         Call::Keep { byte } => {
             if kept.len() < KEPT {
@@ -105,6 +108,7 @@ fn perform(set: &mut Set, kept: &mut Vec<u8>, call: Call) -> Option<(Answer, Sec
             kept.clear();
             (answer, Second::Coded(codes))
         }
+        Call::Lit => (Answer::default(), Second::Lit(set.lit)),
     })
 }
 
@@ -125,7 +129,14 @@ fn print_second(out: &mut impl Write, set: &Set, second: Second) -> io::Result<(
             print_sent(out, set)?;
             print_samples(out, &samples)?;
         }
-        Second::Cued(sample) => write!(out, "# cue={sample}")?,
+        Second::Cued(sample, key) => {
+            write!(out, "# cue={sample} key=")?;
+            print_key(out, key)?;
+        }
+        Second::Lit(key) => {
+            write!(out, "# key=")?;
+            print_key(out, key)?;
+        }
         Second::Coded(codes) => {
             print_sent(out, set)?;
             write!(out, " codes=")?;
@@ -138,6 +149,13 @@ fn print_second(out: &mut impl Write, set: &Set, second: Second) -> io::Result<(
 fn print_sent(out: &mut impl Write, set: &Set) -> io::Result<()> {
     write!(out, "# ring={} sent=", set.ring())?;
     print_bytes(out, &set.session.sent)
+}
+
+fn print_key(out: &mut impl Write, key: Option<Key>) -> io::Result<()> {
+    match key {
+        Some((row, column)) => write!(out, "{row}{column}"),
+        None => write!(out, "-"),
+    }
 }
 
 fn print_bytes(out: &mut impl Write, bytes: &[u8]) -> io::Result<()> {

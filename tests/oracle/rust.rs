@@ -12,6 +12,7 @@ mod rust_session;
 
 mod cue;
 mod left_out;
+mod lit;
 #[path = "stand_in.rs"]
 mod session;
 mod set;

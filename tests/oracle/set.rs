@@ -1,7 +1,8 @@
 //! What 01's set adds to the Rust: the calls it declines, the count m, and the numbers
-//! for states, stages and replies. And 02's E1: a line that ran over is not dialled.
+//! for states, stages and replies. And 02's E1: a line that ran over is not dialled; and E8: the key of a fill's last sample.
 
 use crate::at::{AtProcessor, Response};
+use crate::lit::Key;
 use crate::overture::Stage;
 use crate::rust_session::SessionState;
 use crate::session::Session;
@@ -43,6 +44,8 @@ pub struct Set {
     /// the rest is handed to it with the CR.
     line: Vec<u8>,
     m: u64,
+    /// 02's E8: the key that the last fill answered.
+    pub lit: Option<Key>,
 }
 
 impl Set {
@@ -55,7 +58,7 @@ impl Set {
     }
 
     fn fresh(rate: u32) -> Self {
-        Set { at: AtProcessor::new(), session: Session::new(rate), line: Vec::new(), m: 0 }
+        Set { at: AtProcessor::new(), session: Session::new(rate), line: Vec::new(), m: 0, lit: None }
     }
 
     pub fn feed(&mut self, byte: u8, carrier: bool, outbox: usize) -> Answer {
@@ -111,6 +114,7 @@ impl Set {
 
     pub fn process_out(&mut self, out: &mut [f32]) -> Answer {
         self.session.begin_call(false);
+        self.lit = None;
         if out.len() > FILL_LIMIT {
             return Answer::declined(3);
         }
@@ -121,6 +125,9 @@ impl Set {
             self.m += out.len() as u64;
         }
         self.session.process_out(out);
+        if !out.is_empty() && self.session.stage() == Some(Stage::Dialling) {
+            self.lit = self.session.key_at(self.m);
+        }
         Answer::default()
     }
 
