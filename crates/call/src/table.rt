@@ -95,11 +95,16 @@ fn put_keys(page: &mut [u8], at: usize, dialled: Set, keys: &[u8], len: usize) -
     while i < keys.len() && i < len {
         let cued = cue::cue(dialled, play::at_most(i, u32::MAX));
         let key = cued.key;
-        k = put_digit(page, k, keys[i], key);
-        k = put_first(page, k, cued.sample, dialled.rate());
+        k = put_key(page, k, keys[i], key, cued.sample, dialled.rate());
         i += 1;
     }
     k
+}
+
+// A digit, where its key stands, and when it begins.
+fn put_key(page: &mut [u8], at: usize, digit: u8, key: Lit, sample: u64, rate: u32) -> usize {
+    let k = put_digit(page, at, digit, key);
+    put_first(page, k, sample, rate)
 }
 
 // A digit, and the row and the column of its key.
