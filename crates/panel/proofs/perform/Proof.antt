@@ -71,8 +71,8 @@ returns c =
       (
         c .before .before .before .before .before .before .before .before .before .before .before .before .before .before .before .before .after2 .ensures,
         (
-        c .before .before .before .before .before .before .before .before .before .before .before .before .before .lit .ensures ∙ ap (λ (x : Shown). litAfter (a .p .lit) (x .second)) s,
-        λ e. c .before .before .before .put-second .ensures e ∙ c .before .before .before .before .before .before .before .before .before .before .put-line .ensures ∙ ap (λ (x : Shown). addOf (pageOf (now (a .out)) (a .p .at)) (lineOf x)) s,
+          c .before .before .before .before .before .before .before .before .before .before .before .before .before .lit .ensures ∙ ap (λ (x : Shown). litAfter (a .p .lit) (x .second)) s,
+          λ e. c .before .before .before .put-second .ensures e ∙ c .before .before .before .before .before .before .before .before .before .before .put-line .ensures ∙ ap (λ (x : Shown). addOf (pageOf (now (a .out)) (a .p .at)) (lineOf x)) s,
         ),
       ),
     )
