@@ -8,13 +8,14 @@ int main(void)
     gibbonplate_set set;
     gibbonplate_answer answer;
     uint8_t outbox[GIBBONPLATE_MIN_OUTBOX];
+    uint8_t key[2];
     float samples[256];
     FILE *file = fopen("call.f32", "wb");
 
     gibbonplate_new(&set, 48000);
     for (const char *typed = "ATDT5551234\r"; *typed; typed++)
         gibbonplate_feed(&set, (uint8_t)*typed, false, outbox, sizeof outbox, &answer);
-    while (file && gibbonplate_process_out(&set, samples, 256) == GIBBONPLATE_ACCEPTED) {
+    while (file && gibbonplate_process_out(&set, samples, 256, key) == GIBBONPLATE_ACCEPTED) {
         fwrite(samples, sizeof *samples, 256, file);
         printf("stage %d, sample %u\n", gibbonplate_stage(&set), gibbonplate_m(&set));
     }

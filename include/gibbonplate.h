@@ -10,7 +10,7 @@
  *     gibbonplate_new(&set, 48000);              // then, in the order in which things happen:
  *     gibbonplate_feed(&set, 'A', ...);          // a byte is typed
  *     gibbonplate_advance_time(&set, ns, ...);   // time passes
- *     gibbonplate_process_out(&set, buffer, n);  // the card wants samples
+ *     gibbonplate_process_out(&set, buffer, n, key);  // the card wants samples
  *
  * How long a call will be, stage by stage, is told before it is made, by the last three functions: they
  * take digits and a rate, and no set.
@@ -23,7 +23,7 @@
  *
  *   - Each pointer is to memory of its type, as long as the call is told, and may be written where it
  *     is not const. None is null, but that of a buffer of length 0 may be.
- *   - What is lent to one call does not overlap: set, string, outbox, codes, buffer, answer.
+ *   - What is lent to one call does not overlap: set, string, outbox, codes, buffer, key, answer.
  *   - One call at a time on one set, and each call gets the set as the one before left it. Two sets
  *     have nothing to do with each other. Assigning a set copies it.
  *   - A bool is 0 or 1, as every C expression of the type is.
@@ -81,6 +81,7 @@ enum {
     GIBBONPLATE_MAX_LINE = 80,
     GIBBONPLATE_MAX_DIGITS = 76,
     GIBBONPLATE_MAX_STRING = 256,
+    GIBBONPLATE_NO_KEY = 255, /* the row and the column where no key is lit */
     GIBBONPLATE_MAX_REPLY = 26 /* bytes of the longest reply */
 };
 
@@ -109,9 +110,9 @@ uint8_t gibbonplate_feed_all_in(GIBBONPLATE_ARRAYS, const uint8_t *bytes, size_t
                                 uint8_t *codes, size_t places, size_t *sent);
 uint8_t gibbonplate_advance_time_in(GIBBONPLATE_ARRAYS, uint64_t ns, bool carrier, uint8_t codes[2]);
 uint8_t gibbonplate_force_data_mode_in(GIBBONPLATE_ARRAYS);
-uint8_t gibbonplate_process_out_in(GIBBONPLATE_ARRAYS, float *samples, size_t len);
+uint8_t gibbonplate_process_out_in(GIBBONPLATE_ARRAYS, float *samples, size_t len, uint8_t key[2]);
 uint8_t gibbonplate_ring_in(GIBBONPLATE_CONST_ARRAYS, uint8_t *ring);
-uint8_t gibbonplate_cue_in(GIBBONPLATE_CONST_ARRAYS, uint32_t position, uint64_t *sample);
+uint8_t gibbonplate_cue_in(GIBBONPLATE_CONST_ARRAYS, uint32_t position, uint64_t *sample, uint8_t key[2]);
 uint8_t gibbonplate_mode_in(GIBBONPLATE_CONST_ARRAYS);
 uint8_t gibbonplate_state_in(GIBBONPLATE_CONST_ARRAYS);
 uint8_t gibbonplate_stage_in(GIBBONPLATE_CONST_ARRAYS);
@@ -176,10 +177,14 @@ static inline uint8_t gibbonplate_force_data_mode(gibbonplate_set *set)
  * Fills the buffer with what the house hears next: silence in states 0 and 2, the call in state 1.
  * Samples are between -1 and 1. An empty fill shows the next sample's stage, and with the whole call
  * played takes the line up. Declines with 6, 3 and 5, in this order: in state 3 play what you like.
+ *
+ * key gets the row and the column, 0 to 3 each, of the key whose tones the last sample is of, for a
+ * drawing of the keypad: 123A, 456B, 789C, *0#D. It gets GIBBONPLATE_NO_KEY twice where there is none: in
+ * the gap after a digit, in another stage or state, and after an empty or a declined fill.
  */
-static inline uint8_t gibbonplate_process_out(gibbonplate_set *set, float *samples, size_t len)
+static inline uint8_t gibbonplate_process_out(gibbonplate_set *set, float *samples, size_t len, uint8_t key[2])
 {
-    return gibbonplate_process_out_in(GIBBONPLATE_OF(set), samples, len);
+    return gibbonplate_process_out_in(GIBBONPLATE_OF(set), samples, len, key);
 }
 
 /* ring gets 1 or 2 while the next sample is one of Ringback's, else 0. Declines with 6, ring 0. */
@@ -190,11 +195,12 @@ static inline uint8_t gibbonplate_ring(const gibbonplate_set *set, uint8_t *ring
 
 /*
  * sample gets the number, from 1 in the whole call, of the first sample in the tone of the digit at a
- * position, from 0: no smaller number lies in it. Declines with 6 and 7, in this order, sample 0.
+ * position, from 0: no smaller number lies in it. key gets the row and the column of that digit, as a
+ * fill's. Declines with 6 and 7, in this order, sample 0 and no key.
  */
-static inline uint8_t gibbonplate_cue(const gibbonplate_set *set, uint32_t position, uint64_t *sample)
+static inline uint8_t gibbonplate_cue(const gibbonplate_set *set, uint32_t position, uint64_t *sample, uint8_t key[2])
 {
-    return gibbonplate_cue_in(GIBBONPLATE_OF(set), position, sample);
+    return gibbonplate_cue_in(GIBBONPLATE_OF(set), position, sample, key);
 }
 
 /* The plain readers decline nothing. Of memory that holds no set they read 'C', an S12 of 50, and 0. */

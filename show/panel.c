@@ -1,4 +1,4 @@
-/* The terminal as the panel: eleven icons, the lines typed and the replies. A parent process holds the terminal's settings and puts them back
+/* The terminal as the panel: eleven icons, the keypad, the lines typed and the replies. A parent process holds the terminal's settings and puts them back
  * when the show ends, whatever ends it. */
 #define _DEFAULT_SOURCE
 #include "show.h"
@@ -14,6 +14,8 @@
 
 static const char *const names[12] = {"", "OffHook", "DialTone", "Dialling", "Ringback", "Ci", "Ansam",
                                       "CmJm", "Cj", "Training", "Connected", "carrier"};
+
+static const char keypad[] = "123A456B789C*0#D";
 
 static volatile pid_t child;
 
@@ -109,16 +111,25 @@ void panel_draw(const panel *p)
 {
     char page[4096];
     size_t at = 0;
-    int i;
+    int i, column;
 
 #define PUT(...) (at += (size_t)snprintf(page + at, at < sizeof page ? sizeof page - at : 0, __VA_ARGS__))
     if (!p->on)
         return;
     PUT("\033[H\033[1mGibbonplate\033[0m   Tab: carrier   Ctrl-C: end\033[K\n\033[K\n");
-    for (i = 1; i <= 11; i++) {
+    for (i = 1; i <= 16; i++) {
         bool lit = i == 11 ? p->carrier : i == p->icon;
-        PUT("%s %2d %-10s\033[0m%s", lit ? "\033[1;7m" : "\033[2m", i, names[i], i == 6 || i == 11 ? "\033[K\n\033[K\n" : "  ");
+        if (i <= 11)
+            PUT("%s %2d %-10s\033[0m  ", lit ? "\033[1;7m" : "\033[2m", i, names[i]);
+        else
+            PUT("%16s", "");
+        if (i % 4 == 0) {
+            for (column = 0; column < 4; column++)
+                PUT("%s %c \033[0m", p->key[0] == i / 4 - 1 && p->key[1] == column ? "\033[1;7m" : "\033[2m", keypad[i - 4 + column]);
+            PUT("\033[K\n");
+        }
     }
+    PUT("\033[K\n");
     PUT("%u Hz, buffers of %u, sample %u", p->rate, p->buffer, p->m);
     if (p->total > 0)
         PUT(" of %u (%u %%)", p->total, (unsigned)((uint64_t)(p->m < p->total ? p->m : p->total) * 100 / p->total));

@@ -19,11 +19,18 @@ static void add(uint32_t *count)
     __atomic_store_n(count, *count + 1, __ATOMIC_RELAXED);
 }
 
+static void unlit(show *s)
+{
+    s->key[0] = s->key[1] = GIBBONPLATE_NO_KEY;
+}
+
 static void tell(show *s, const gibbonplate_set *set, jack_nframes_t start, size_t at, show_event event)
 {
     event.frame = s->frame + at;
     event.time = start + (jack_nframes_t)at;
     event.carrier = s->carrier;
+    event.key[0] = s->key[0];
+    event.key[1] = s->key[1];
     event.set = *set;
     if (jack_ringbuffer_write_space(s->events) < sizeof event)
         add(&s->lost);
@@ -61,9 +68,15 @@ static void passed(show *s, jack_nframes_t start, jack_nframes_t frames)
         tell(s, &s->set, start, 0, event);
 }
 
-/* Tells each icon that came in a fill with the frame of its first sample, which the set has not said: it shows the last sample's stage. So the
- * fill is made again from the set before it, in ever shorter parts. Icons never go back in a fill. */
-static void icons(show *s, gibbonplate_set before, jack_nframes_t start, size_t at, size_t len)
+/* Whether a set after a fill shows what this one shows, of which this key is lit. */
+static bool same_lights(const gibbonplate_set *set, const uint8_t key[2], const gibbonplate_set *after, const uint8_t lit[2])
+{
+    return show_icon(set) == show_icon(after) && key[0] == lit[0] && key[1] == lit[1];
+}
+
+/* Tells each icon and each key that came in a fill with the frame of its first sample, which the set has not said: it shows the last sample's. So
+ * the fill is made again from the set before it, in ever shorter parts. A fill is so short that nothing is shown twice in it. */
+static void lights(show *s, gibbonplate_set before, jack_nframes_t start, size_t at, size_t len)
 {
     static float scratch[GIBBONPLATE_MAX_FILL];
     static const show_event plain = {0};
@@ -71,20 +84,21 @@ static void icons(show *s, gibbonplate_set before, jack_nframes_t start, size_t 
     while (len > 0) {
         size_t same = 0, other = len;
         gibbonplate_set part = before;
+        uint8_t lit[2];
 
-        gibbonplate_process_out(&part, scratch, len);
-        if (show_icon(&part) == show_icon(&before))
+        gibbonplate_process_out(&part, scratch, len, lit);
+        if (same_lights(&before, s->key, &part, lit))
             return;
         while (other - same > 1) {
             size_t middle = same + (other - same) / 2;
             part = before;
-            gibbonplate_process_out(&part, scratch, middle);
-            if (show_icon(&part) == show_icon(&before))
+            gibbonplate_process_out(&part, scratch, middle, lit);
+            if (same_lights(&before, s->key, &part, lit))
                 same = middle;
             else
                 other = middle;
         }
-        gibbonplate_process_out(&before, scratch, other);
+        gibbonplate_process_out(&before, scratch, other, s->key);
         tell(s, &before, start, at + other - 1, plain);
         at += other;
         len -= other;
@@ -94,11 +108,18 @@ static void icons(show *s, gibbonplate_set before, jack_nframes_t start, size_t 
 static void fill(show *s, float *out, jack_nframes_t start, size_t at, size_t len)
 {
     gibbonplate_set before = s->set;
+    uint8_t lit[2];
 
-    if (gibbonplate_process_out(&s->set, out + at, len) != GIBBONPLATE_ACCEPTED)
+    if (gibbonplate_process_out(&s->set, out + at, len, lit) != GIBBONPLATE_ACCEPTED)
         memset(out + at, 0, len * sizeof *out);
-    else if (show_icon(&s->set) != show_icon(&before))
-        icons(s, before, start, at, len);
+    else if (!same_lights(&before, s->key, &s->set, lit))
+        lights(s, before, start, at, len);
+}
+
+/* The longest fill in which no light that went out comes back: a tone and a gap last a tenth of a second each. */
+static size_t longest(const show *s)
+{
+    return s->rate / 20 < GIBBONPLATE_MAX_FILL ? s->rate / 20 : GIBBONPLATE_MAX_FILL;
 }
 
 static uint64_t now_ns(void)
@@ -125,6 +146,7 @@ static int process(jack_nframes_t frames, void *with)
         s->made = s->rate;
         s->mute = event.refusal != GIBBONPLATE_ACCEPTED;
         s->rest = 0;
+        unlit(s);
         tell(s, &s->set, start, 0, event);
     }
     if (s->mute) {
@@ -134,8 +156,8 @@ static int process(jack_nframes_t frames, void *with)
     } else {
         typed(s, start);
         passed(s, start, frames);
-        for (at = 0; at < frames; at += GIBBONPLATE_MAX_FILL)
-            fill(s, out, start, at, frames - at < GIBBONPLATE_MAX_FILL ? frames - at : GIBBONPLATE_MAX_FILL);
+        for (at = 0; at < frames; at += longest(s))
+            fill(s, out, start, at, frames - at < longest(s) ? frames - at : longest(s));
     }
     if (s->take && jack_ringbuffer_write(s->take, (const char *)out, frames * sizeof *out) < frames * sizeof *out)
         add(&s->lost);
@@ -203,6 +225,7 @@ bool show_open(show *s, const char *server, bool take)
         fprintf(stderr, "show: the server runs at %u samples a second; the set takes 8000 to 192000\n", s->rate);
         return false;
     }
+    unlit(s);
     s->keys = ring(4096 * sizeof(show_key));
     s->events = ring(1024 * sizeof(show_event));
     s->take = take ? ring((size_t)1 << 23) : NULL;

@@ -174,7 +174,7 @@ static uint32_t total(const gibbonplate_set *call)
 
 static void heard(desk *d, panel *p, const show_event *e, uint64_t lit)
 {
-    char said[64] = "";
+    char said[64] = "", pressed[8] = "-";
     size_t at = 0;
     int i;
 
@@ -195,11 +195,15 @@ static void heard(desk *d, panel *p, const show_event *e, uint64_t lit)
     if (gibbonplate_state(&e->set) == GIBBONPLATE_DIALLING && gibbonplate_m(&e->set) == 0)
         p->total = total(&e->set);
     p->icon = show_icon(&e->set);
+    p->key[0] = e->key[0];
+    p->key[1] = e->key[1];
     p->carrier = e->carrier;
     p->mode = gibbonplate_mode(&e->set);
+    if (e->key[0] != GIBBONPLATE_NO_KEY)
+        snprintf(pressed, sizeof pressed, "%u%u", e->key[0], e->key[1]);
     if (d->log)
-        fprintf(d->log, "%llu,%llu,%u,%u,%u,%s\n", (unsigned long long)e->frame, (unsigned long long)lit, p->icon,
-                gibbonplate_state(&e->set), e->carrier, said);
+        fprintf(d->log, "%llu,%llu,%u,%u,%u,%s,%s\n", (unsigned long long)e->frame, (unsigned long long)lit, p->icon,
+                gibbonplate_state(&e->set), e->carrier, pressed, said);
 }
 
 /* Lights what is heard by now. */
@@ -308,9 +312,10 @@ int main(int argc, char **argv)
     connect_out(&d, &s);
     in_time(&s);
     p.mode = 'C';
+    p.key[0] = p.key[1] = GIBBONPLATE_NO_KEY;
     panel_start(&p);
     if (d.log)
-        fprintf(d.log, "frame,lit,icon,state,carrier,reply\n");
+        fprintf(d.log, "frame,lit,icon,state,carrier,key,reply\n");
     while (!stop && !__atomic_load_n(&s.ended, __ATOMIC_RELAXED)) {
         bool changed;
 

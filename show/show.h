@@ -22,6 +22,7 @@ typedef struct {
     bool carrier;
     bool fresh;            /* the server's rate changed, and the set was made anew */
     uint32_t rate;         /* the new one */
+    uint8_t key[2];        /* the key that is lit, as a fill gives it */
     gibbonplate_answer answer;
     gibbonplate_set set;
 } show_event;
@@ -37,6 +38,7 @@ typedef struct {
     uint32_t made;  /* the rate for which the set was made */
     bool mute;      /* no set can be made for it */
     bool carrier;
+    uint8_t key[2]; /* of the last sample played */
     uint64_t rest;  /* of nanoseconds times the rate, carried over to the next buffer */
     uint64_t frame;
     /* written by one side and read by the other */
@@ -60,6 +62,7 @@ uint8_t show_icon(const gibbonplate_set *set);
 typedef struct {
     bool on;           /* standard output is a terminal */
     uint8_t icon;
+    uint8_t key[2];
     bool carrier;
     uint8_t mode;
     uint32_t rate, buffer, m, total, late;

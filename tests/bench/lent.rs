@@ -33,6 +33,7 @@ extern "C" {
     ) -> u8;
     fn gibbonplate_process_out_in(
         l: &mut Longs, c: &mut Counts, r: &mut Reals, m: &mut Marks, b: &mut Line, k: &mut Keys, samples: &mut [f32],
+        key: &mut [u8; 2],
     ) -> u8;
     fn gibbonplate_total_samples(digits: &[u8], rate: u32) -> u32;
 }
@@ -85,9 +86,11 @@ impl Lent {
     }
 
     pub fn process_out(&mut self, samples: &mut [f32]) -> u8 {
+        let mut key = [0; 2];
         unsafe {
             gibbonplate_process_out_in(
                 &mut self.longs, &mut self.counts, &mut self.reals, &mut self.marks, &mut self.line, &mut self.keys, samples,
+                &mut key,
             )
         }
     }

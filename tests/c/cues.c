@@ -47,8 +47,9 @@ static void dial(gibbonplate_set *set, uint32_t rate)
 static void heard(const gibbonplate_set *set, uint32_t position, uint64_t number)
 {
     uint64_t sample;
+    uint8_t key[2];
 
-    if (gibbonplate_cue(set, position, &sample) == GIBBONPLATE_ACCEPTED && sample == number)
+    if (gibbonplate_cue(set, position, &sample, key) == GIBBONPLATE_ACCEPTED && sample == number)
         return;
     fprintf(stderr, "tests/c/cues.c: at %u digit %u is heard from sample %llu, and its cue is %llu\n", (unsigned)gibbonplate_rate(set),
             (unsigned)position, (unsigned long long)number, (unsigned long long)sample);
@@ -59,12 +60,13 @@ static void listen(uint32_t rate)
 {
     gibbonplate_set set;
     float sample;
+    uint8_t key[2];
     uint32_t digit = 0;
     int quiet = 2;
 
     dial(&set, rate);
     while (gibbonplate_stage(&set) < 4) {
-        if (gibbonplate_process_out(&set, &sample, 1) != GIBBONPLATE_ACCEPTED)
+        if (gibbonplate_process_out(&set, &sample, 1, key) != GIBBONPLATE_ACCEPTED)
             exit(1);
         if (gibbonplate_stage(&set) != 3)
             continue;

@@ -27,6 +27,19 @@ static void failed(const char *fact, int line)
     exit(1);
 }
 
+/* What the last fill or cue gave. */
+static uint8_t key[2];
+
+static bool lit(uint8_t row, uint8_t column)
+{
+    return key[0] == row && key[1] == column;
+}
+
+static bool unlit(void)
+{
+    return lit(GIBBONPLATE_NO_KEY, GIBBONPLATE_NO_KEY);
+}
+
 static uint64_t seed = 0x2545F4914F6CDD1D;
 
 static uint64_t random64(void)
@@ -121,7 +134,7 @@ static void call(const char *digits, uint32_t rate, const char *path)
         size_t i;
 
         memset(buffers.bytes, 0x5A, buffers.size);
-        CHECK(gibbonplate_process_out(&set, buffer, len) == 0);
+        CHECK(gibbonplate_process_out(&set, buffer, len, key) == 0);
         for (i = 0; i < len; i++) {
             float silence = 0;
             CHECK(memcmp(&buffer[i], m + i < total ? &expected[m + i] : &silence, sizeof(float)) == 0);
@@ -156,10 +169,10 @@ static void declined_with_6(gibbonplate_set set)
     CHECK(gibbonplate_feed_all(&set, NULL, 0, false, NULL, 0, NULL, 0, &sent) == 6);
     CHECK(gibbonplate_advance_time(&set, 1, false, &answer) == 6);
     CHECK(gibbonplate_force_data_mode(&set) == 6);
-    CHECK(gibbonplate_process_out(&set, &sample, 1) == 6 && sample == 3);
-    CHECK(gibbonplate_process_out(&set, NULL, 0) == 6);
+    CHECK(gibbonplate_process_out(&set, &sample, 1, key) == 6 && sample == 3 && unlit());
+    CHECK(gibbonplate_process_out(&set, NULL, 0, key) == 6);
     CHECK(gibbonplate_ring(&set, &ring) == 6 && ring == 0);
-    CHECK(gibbonplate_cue(&set, 0, &cued) == 6 && cued == 0);
+    CHECK(gibbonplate_cue(&set, 0, &cued, key) == 6 && cued == 0 && unlit());
     CHECK(memcmp(&set, &was, sizeof set) == 0);
 }
 
@@ -179,7 +192,7 @@ static void bits(void)
     for (i = 0; i < sizeof stages / sizeof *stages; i++) {
         uint32_t done;
         while (set.marks[5] != stages[i].stage)
-            CHECK(gibbonplate_process_out(&set, samples, 100) == 0);
+            CHECK(gibbonplate_process_out(&set, samples, 100, key) == 0);
         for (done = 0; done < stages[i].end; done++) {
             gibbonplate_set made = set;
             made.counts[2] = done;
@@ -335,33 +348,33 @@ static void refusals(void)
     CHECK(memcmp(codes, "\4\0002\0\0002\0\0002\0\0002\5\0012\0\0002\0\0002\0\0002\4\0002\7\7", 29) == 0);
 
     /* 7, and a cue */
-    CHECK(gibbonplate_cue(&set, 0, &sample) == 7 && sample == 0);
+    CHECK(gibbonplate_cue(&set, 0, &sample, key) == 7 && sample == 0 && unlit());
     type(&set, "ATDT12\r");
-    CHECK(gibbonplate_cue(&set, 0, &sample) == 0 && sample == 400 + 8000 + 1);
-    CHECK(gibbonplate_cue(&set, 1, &sample) == 0 && sample == 400 + 8000 + 1600 + 1);
-    CHECK(gibbonplate_cue(&set, 2, &sample) == 7 && sample == 0);
-    CHECK(gibbonplate_cue(&set, UINT32_MAX, &sample) == 7 && sample == 0);
+    CHECK(gibbonplate_cue(&set, 0, &sample, key) == 0 && sample == 400 + 8000 + 1 && lit(0, 0));
+    CHECK(gibbonplate_cue(&set, 1, &sample, key) == 0 && sample == 400 + 8000 + 1600 + 1 && lit(0, 1));
+    CHECK(gibbonplate_cue(&set, 2, &sample, key) == 7 && sample == 0 && unlit());
+    CHECK(gibbonplate_cue(&set, UINT32_MAX, &sample, key) == 7 && sample == 0);
     CHECK(gibbonplate_digits(&set, digits) == 2 && memcmp(digits, "12", 2) == 0);
 
     /* 3 */
     was = set;
     samples[0] = 3;
-    CHECK(gibbonplate_process_out(&set, samples, GIBBONPLATE_MAX_FILL + 1) == 3 && samples[0] == 3);
+    CHECK(gibbonplate_process_out(&set, samples, GIBBONPLATE_MAX_FILL + 1, key) == 3 && samples[0] == 3 && unlit());
     CHECK(memcmp(&set, &was, sizeof set) == 0);
-    CHECK(gibbonplate_process_out(&set, NULL, 0) == 0 && gibbonplate_stage(&set) == 1);
+    CHECK(gibbonplate_process_out(&set, NULL, 0, key) == 0 && gibbonplate_stage(&set) == 1 && unlit());
 
     /* the rings, and 5 */
-    CHECK(gibbonplate_process_out(&set, samples, 400 + 8000 + 3200) == 0 && gibbonplate_stage(&set) == 3);
+    CHECK(gibbonplate_process_out(&set, samples, 400 + 8000 + 3200, key) == 0 && gibbonplate_stage(&set) == 3 && unlit());
     CHECK(gibbonplate_ring(&set, &ring) == 0 && ring == 1);
-    CHECK(gibbonplate_process_out(&set, samples, 24001) == 0);
+    CHECK(gibbonplate_process_out(&set, samples, 24001, key) == 0);
     CHECK(gibbonplate_ring(&set, &ring) == 0 && ring == 2);
-    CHECK(gibbonplate_process_out(&set, samples, 8000) == 0);
+    CHECK(gibbonplate_process_out(&set, samples, 8000, key) == 0);
     CHECK(gibbonplate_ring(&set, &ring) == 0 && ring == 0);
-    CHECK(gibbonplate_process_out(&set, samples, GIBBONPLATE_MAX_FILL) == 0);
+    CHECK(gibbonplate_process_out(&set, samples, GIBBONPLATE_MAX_FILL, key) == 0);
     CHECK(gibbonplate_state(&set) == GIBBONPLATE_CONNECTED);
     was = set;
     samples[0] = 3;
-    CHECK(gibbonplate_process_out(&set, samples, 1) == 5 && samples[0] == 3);
+    CHECK(gibbonplate_process_out(&set, samples, 1, key) == 5 && samples[0] == 3 && unlit());
     CHECK(memcmp(&set, &was, sizeof set) == 0);
 
     /* carrier, time and data mode */
@@ -381,9 +394,9 @@ static void refusals(void)
     declined_with_6(set);
     bits();
     memset(&set, 0xFF, sizeof set);
-    CHECK(gibbonplate_process_out(&set, samples, 1) == 6 && gibbonplate_rate(&set) == 0 && gibbonplate_mode(&set) == 'C' && gibbonplate_s12(&set) == 50);
+    CHECK(gibbonplate_process_out(&set, samples, 1, key) == 6 && gibbonplate_rate(&set) == 0 && gibbonplate_mode(&set) == 'C' && gibbonplate_s12(&set) == 50);
     memset(&set, 0, sizeof set);
-    CHECK(gibbonplate_process_out(&set, samples, 1) == 6 && gibbonplate_rate(&set) == 0);
+    CHECK(gibbonplate_process_out(&set, samples, 1, key) == 6 && gibbonplate_rate(&set) == 0);
 
     /* replies */
     for (i = 0; i < 256; i++) {
@@ -467,7 +480,7 @@ static size_t bank(gibbonplate_set *sets)
     }
     while (count < SETS && gibbonplate_state(&sets[count - 1]) == GIBBONPLATE_DIALLING) {
         sets[count] = sets[count - 1];
-        CHECK(gibbonplate_process_out(&sets[count++], samples, 300) == 0);
+        CHECK(gibbonplate_process_out(&sets[count++], samples, 300, key) == 0);
     }
     CHECK(gibbonplate_state(&sets[count - 1]) == GIBBONPLATE_CONNECTED);
     return count;
@@ -537,9 +550,9 @@ static void scribbled(size_t times)
         }
         case 1: refusal = gibbonplate_advance_time(set, below(2) ? random64() : below(2000000000), carrier, answer); break;
         case 2: refusal = gibbonplate_force_data_mode(set); break;
-        case 3: refusal = gibbonplate_process_out(set, samples, len); break;
+        case 3: refusal = gibbonplate_process_out(set, samples, len, key); CHECK(refusal == 0 || unlit()); break;
         case 4: refusal = gibbonplate_ring(set, &ring); CHECK(refusal == 0 ? ring <= 2 : ring == 0); break;
-        default: refusal = gibbonplate_cue(set, (uint32_t)below(80), &sample); CHECK((refusal == 0) == (sample > 0)); break;
+        default: refusal = gibbonplate_cue(set, (uint32_t)below(80), &sample, key); CHECK((refusal == 0) == (sample > 0) && (refusal == 0) == !unlit()); break;
         }
         CHECK(refusal <= 9 && refusal != 8 && refusal != 1 && refusal != 3);
         declined[refusal]++;

@@ -416,6 +416,31 @@ CUE = [
     one("lines.rs", "cue_position_of_256", "position <= 255", "position <= 256"),
 ]
 
+# ---------------------------------------------------------------- 02's E8, the key that is lit
+
+LIT = [
+    one("set.rs", "key_of_the_next_sample", "self.session.key_at(self.m)", "self.session.key_at(self.m + 1)"),
+    one("set.rs", "key_of_the_sample_before", "self.session.key_at(self.m)", "self.session.key_at(self.m - 1)"),
+    one("set.rs", "key_of_the_fills_first_sample", "self.session.key_at(self.m)", "self.session.key_at(self.m + 1 - out.len() as u64)"),
+    one("set.rs", "key_after_an_empty_fill", "if !out.is_empty() && self.session.stage()", "if self.session.stage()"),
+    one("set.rs", "empty_fill_leaves_the_key", "self.lit = None;\n        if out.len() > FILL_LIMIT",
+        "if !out.is_empty() { self.lit = None; }\n        if out.len() > FILL_LIMIT"),
+    one("set.rs", "declined_fill_leaves_the_key", "self.lit = None;\n        if out.len() > FILL_LIMIT",
+        "if out.len() <= FILL_LIMIT { self.lit = None; }\n        if out.len() > FILL_LIMIT"),
+    one("set.rs", "key_kept_over_fills", "self.lit = None;\n        if out.len() > FILL_LIMIT", "if out.len() > FILL_LIMIT"),
+    one("stand_in.rs", "key_lit_in_the_gap", "first <= sample && sample <= last", "first <= sample && sample <= last + (last - first) / 2"),
+    one("stand_in.rs", "key_one_sample_late", "first <= sample && sample <= last", "first < sample && sample <= last"),
+    one("stand_in.rs", "key_out_one_sample_early", "first <= sample && sample <= last", "first <= sample && sample < last"),
+    one("stand_in.rs", "key_of_the_digit_before", "self.key_of(digit)\n", "self.key_of(digit.saturating_sub(1))\n"),
+    one("stand_in.rs", "key_of_the_call_before", "self.firsts = None;\n        self.tones = None;", "self.firsts = None;"),
+    one("lit.rs", "row_and_column_exchanged", "(place / 4, place % 4)", "(place % 4, place / 4)"),
+    one("lit.rs", "rows_from_1", "(place / 4, place % 4)", "(place / 4 + 1, place % 4 + 1)"),
+    one("lit.rs", "telephone_with_0_first", '"123A456B789C*0#D"', '"0123456789*#ABCD"'),
+    one("main.rs", "declined_cue_has_a_key", "if answer.refusal == 0 { set.session.key_of(position) } else { None }", "set.session.key_of(position)"),
+    one("main.rs", "cue_has_no_key", "if answer.refusal == 0 { set.session.key_of(position) } else { None }", "None"),
+    one("lines.rs", "key_without_ext", '(b"K", &[]) if extended', '(b"K", &[])'),
+]
+
 # ---------------------------------------------------------------- 02's E3, a string
 
 STRINGS = [
@@ -541,4 +566,4 @@ UNSEEN = [
     one("at.rs", "unseen_fourth_plus_late", "1 | 2 => idle <= GUARD_TIME", "1 | 2 | 4.. => idle <= GUARD_TIME", unseen="no more than three are held"),
 ]
 
-ALL = FLOATS + KEYS + STAGES + SET + REFUSALS + AT + LINES + CUE + STRINGS + S12 + BITS + UNSEEN
+ALL = FLOATS + KEYS + STAGES + SET + REFUSALS + AT + LINES + CUE + STRINGS + S12 + BITS + LIT + UNSEEN

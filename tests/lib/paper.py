@@ -146,6 +146,20 @@ def first_sample(position, rate):
     return seconds(0.05, rate) + seconds(1, rate) + n + 1
 
 
+KEYPAD = b"123A456B789C*0#D"
+
+
+def key_of(digit):
+    """02's E8: a digit's row and column."""
+    return divmod(KEYPAD.index(digit), 4)
+
+
+def key_of_sample(m, digits, rate):
+    """02's E8: the key in whose tone sample m of the overture is, which is one of Dialling's; None in a gap."""
+    position, tone = digit_at(m - 1 - seconds(0.05, rate) - seconds(1, rate), rate)
+    return key_of(digits[position]) if tone and position < len(digits) else None
+
+
 @functools.lru_cache(maxsize=4096)
 def bits_length(count, rate):
     """Samples until `count` bits are done, by the symbol phase."""
@@ -286,6 +300,7 @@ class Set:
         self.pluses, self.idle, self.s12 = 0, 0, FRESH_S12
         self.seen, self.down = False, 0
         self.sent, self.cued, self.codes = b"", 0, b""
+        self.lit, self.cued_key = None, None
 
     # Each call gives (refusal, codes); `sent` holds what the last one sent.
 
@@ -350,7 +365,7 @@ class Set:
         return 0, ()
 
     def process_out(self, length):
-        self.sent = b""
+        self.sent, self.lit = b"", None
         if length > FILL_LIMIT:
             return 3, ()
         if self.state == CONNECTED:
@@ -359,6 +374,8 @@ class Set:
             self.m += length
             sample = self.m if length > 0 else self.m + 1
             self.shown = stage_of(sample, len(self.digits), self.rate)
+            if self.shown == 3 and length > 0:
+                self.lit = key_of_sample(self.m, self.digits, self.rate)
             if self.shown == 10:
                 self.state, self.shown = CONNECTED, 0
         return 0, ()
@@ -369,11 +386,11 @@ class Set:
         return ring_after(self.m, len(self.digits), self.rate)
 
     def cue(self, position):
-        """02's E2; `cued` holds the sample."""
-        self.sent, self.cued = b"", 0
+        """02's E2; `cued` holds the sample, and `cued_key` 02's E8."""
+        self.sent, self.cued, self.cued_key = b"", 0, None
         if self.state != DIALLING or position >= len(self.digits):
             return 7, ()
-        self.cued = first_sample(position, self.rate)
+        self.cued, self.cued_key = first_sample(position, self.rate), key_of(self.digits[position])
         return 0, ()
 
     def length(self):
@@ -458,6 +475,7 @@ def parsed(line, extended=False):
         limits[b"S", 3] = (1, 1_200, 1_200)
         limits[b"B", 1] = (64,)
         limits[b"U", 0] = ()
+        limits[b"K", 0] = ()
     limit = limits.get((letter, len(numbers)))
     if limit is None or any(most is not None and n > most for n, most in zip(numbers, limit)):
         return None
@@ -467,6 +485,10 @@ def parsed(line, extended=False):
 def byte_of(frame):
     """The byte of a frame's bits, which are text."""
     return bytes([int(frame[8:0:-1], 2)])
+
+
+def shown_key(key):
+    return "%d%d" % key if key else "-"
 
 
 class Wall:
@@ -496,6 +518,8 @@ class Wall:
             return self.read_bits(numbers[0])
         if letter == "U":
             return self.take_frame()
+        if letter == "K":
+            return 0, ()
         if letter == "S":
             string, self.kept = self.kept, b""
             return self.set.feed_all(string, numbers[0] == 1, *numbers[1:])
@@ -545,7 +569,9 @@ class Wall:
     def facts(self, call):
         """The part of the oracle's second line that needs no samples."""
         if call[0] == "C":
-            return f"# cue={self.set.cued}"
+            return f"# cue={self.set.cued} key={shown_key(self.set.cued_key)}"
+        if call[0] == "K":
+            return f"# key={shown_key(self.set.lit)}"
         if call[0] in "BU":
             return self.bits
         sent = f"# ring={self.set.ring()} sent={self.set.sent.hex().upper() or '-'}"

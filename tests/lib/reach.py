@@ -271,6 +271,7 @@ def note_lapse(reached, before, numbers, after, row):
 def note_fill(reached, before, numbers, after, row):
     length = numbers[0]
     name = STATE_NAMES[before.state]
+    note_lit(reached, before, length, row, after)
     if row[0] == "3":
         reached[f"fill too long in {name}"] += 1
         return
@@ -412,7 +413,42 @@ def note_bits(reached, before, call, wall):
             place = "" if bit else "skip"
 
 
-NOTES = {"R": note_create, "T": note_typed, "W": note_lapse, "F": note_fill, "D": note_forced, "C": note_cue, "S": note_string}
+def note_key(reached, before, numbers, after, row):
+    """02's E8: the key that the last fill answered, and what that fill was."""
+    reached["key asked" if after.lit else "no key asked"] += 1
+
+
+def note_lit(reached, before, length, row, after):
+    """What a fill answered as its key."""
+    if row[0] != "0":
+        reached["no key after a declined fill"] += 1
+        return
+    if length == 0:
+        reached["no key after an empty fill"] += 1
+        reached["no key after an empty fill in a tone"] += before.lit is not None
+        return
+    if after.state != DIALLING:
+        reached[f"no key in {STATE_NAMES[after.state]}"] += 1
+        return
+    if after.shown != 3:
+        reached["no key in another stage"] += 1
+        return
+    if not after.digits:
+        reached["no key with no digits"] += 1
+        return
+    around = paper.key_of_sample(after.m - 1, after.digits, before.rate), paper.key_of_sample(after.m + 1, after.digits, before.rate)
+    first = after.m == before.ends[1] + 1
+    if after.lit:
+        reached["key %d%d" % after.lit] += 1
+        reached["key of a tone's first sample"] += first or around[0] is None
+        reached["key of a tone's last sample"] += around[1] is None
+    else:
+        reached["no key in a gap"] += 1
+        reached["no key in a gap's first sample"] += around[0] is not None
+        reached["no key in a gap's last sample"] += around[1] is not None
+
+
+NOTES = {"K": note_key, "R": note_create, "T": note_typed, "W": note_lapse, "F": note_fill, "D": note_forced, "C": note_cue, "S": note_string}
 
 
 # ---------------------------------------------------------------- what must be reached
@@ -470,6 +506,11 @@ def must(extended):
         names += ["cue of a digit that was heard", "cue on a whole place", "cue one after a whole place", "cue off a whole place"]
         names += [f"cue declined: {why}" for why in ("no such digit", "Idle", "Answering", "Connected")]
         names += ["cue at position d", "cue with no digits"]
+        names += ["key asked", "no key asked"] + ["key %d%d" % (row, column) for row in range(4) for column in range(4)]
+        names += ["key of a tone's first sample", "key of a tone's last sample"]
+        names += ["no key in a gap", "no key in a gap's first sample", "no key in a gap's last sample", "no key in another stage"]
+        names += ["no key with no digits", "no key after an empty fill", "no key after an empty fill in a tone", "no key after a declined fill"]
+        names += [f"no key in {state}" for state in STATE_NAMES if state != "Dialling"]
         names += ["refusal 8", "refusal 9", "byte kept", "byte passed over", "string of 257 bytes declined", "string of 300 bytes declined"]
         names += ["string too long and without room", "string with its outbox a byte short", "string with its codes a place short"]
         names += ["string with both buffers short", "declined string that would dial", "string with just enough room"]

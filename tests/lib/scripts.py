@@ -35,6 +35,7 @@ OTHER_LINES = (
     b"# ring=0", b"0,C,0,0,0,0,0", b"C", b"C,", b"C,256", b"C,0,0", b"c,0", b"C,-1", b"C,18446744073709551616", b"# cue=0",
     b"M", b"M,", b"M,256", b"M,65,0", b"m,65", b"S", b"S,0", b"S,0,4", b"S,2,4,2", b"S,0,1201,2", b"S,0,4,1201", b"S,0,4,2,0", b"s,0,4,2",
     b"B", b"B,", b"B,65", b"B,64,0", b"b,64", b"B,-1", b"U,", b"U,0", b"u", b"UU",
+    b"K,", b"K,0", b"KK", b"k", b"K ", b"K\r", b"# key=00",
 )
 
 
@@ -273,7 +274,7 @@ class Script:
                 self.lapse_in_pieces(self.random.choice(GUARDS + (0, 1, 400_000_000)), carrier)
         pick = self.random.random()
         if pick < 0.5:
-            self.lapse_in_pieces(self.random.choice(GUARDS), carrier or self.chance(0.3))
+            self.lapse_in_pieces(self.random.choice(GUARDS), carrier or self.chance(0.6))
         elif pick < 0.8:
             self.type_byte(self.random.choice((PLUS, 65, LF, CR)), carrier)
         elif pick < 0.9:
@@ -391,6 +392,34 @@ class Script:
         if self.chance(0.3):
             self.scene_fill()
             self.cue(self.random.randint(0, max(count, 1)))
+
+    def key(self):
+        self.put(b"K")
+
+    def scene_key(self):
+        """02's E8: the key after a fill that ends in a digit's tone, in a gap, at their edges, or in another stage; after an empty and a declined one."""
+        if not self.extended:
+            return
+        pick = self.random.random()
+        if pick < 0.5:
+            if self.set.rate > 48_000:
+                self.create(self.some_rate())
+            self.dial_line()
+        elif pick < 0.6:
+            self.key()
+            self.create(self.random.choice(BAD_RATES) if self.chance(0.3) else self.some_rate())
+            self.key()
+        if self.set.state == DIALLING and self.set.digits and len(self.set.digits) < 20:
+            for position in sorted(self.random.choices(range(len(self.set.digits)), k=3)):
+                first = paper.first_sample(position, self.set.rate)
+                half = self.set.rate // 10
+                self.go_to(first + self.random.choice((-2, -1, 0, 1, half - 2, half - 1, half, half + 1, self.random.randint(0, 2 * half))))
+                self.key()
+                for _ in range(self.random.randint(0, 3)):
+                    self.fill(self.random.choice((0, 1, 1, 1, 2, 65_537)))
+                    self.key()
+        self.scene_fill()
+        self.key()
 
     def keep(self, string):
         for byte in string:
@@ -571,9 +600,9 @@ class Script:
 
     SCENES = (
         (scene_fresh, 6), (scene_command, 12), (scene_empty_line, 2), (scene_dial, 10), (scene_fill, 10),
-        (scene_stage_end, 8), (scene_walk, 3), (scene_line_up, 3), (scene_inner_edge, 5), (scene_escape, 10),
-        (scene_carrier, 8), (scene_resume, 5), (scene_hang_up, 4), (scene_huge_lapse, 2), (scene_forced, 4), (scene_long_line, 4), (scene_other_lines, 4), (scene_noise, 5),
-        (scene_extended, 8), (scene_cue, 6), (scene_string, 10), (scene_s12, 6), (scene_bits, 8), (scene_in_connected, 3), (scene_in_answering, 3),
+        (scene_stage_end, 8), (scene_walk, 3), (scene_line_up, 3), (scene_inner_edge, 5), (scene_escape, 14),
+        (scene_carrier, 10), (scene_resume, 5), (scene_hang_up, 4), (scene_huge_lapse, 2), (scene_forced, 4), (scene_long_line, 4), (scene_other_lines, 4), (scene_noise, 5),
+        (scene_extended, 8), (scene_cue, 6), (scene_key, 8), (scene_string, 10), (scene_s12, 6), (scene_bits, 8), (scene_in_connected, 3), (scene_in_answering, 3),
     )
 
     def write(self, count):

@@ -14,12 +14,13 @@ pub enum Call {
     TypeString { carrier: bool, outbox: usize, places: usize },
     ReadBits { room: usize },
     TakeFrame,
+    Lit,
 }
 
 const WIDEST_OUTBOX: u128 = 16;
 const STRING_ROOM: u128 = 1_200;
 
-/// With `extended`, a T line may give the outbox length, fills may be longer, and there are C, M, S, B and U lines.
+/// With `extended`, a T line may give the outbox length, fills may be longer, and there are C, M, S, B, U and K lines.
 pub fn read_line(line: &[u8], extended: bool) -> Option<Call> {
     let mut parts = line.split(|&b| b == b',');
     let letter = parts.next()?;
@@ -36,6 +37,7 @@ pub fn read_line(line: &[u8], extended: bool) -> Option<Call> {
         (b"F", &[length]) if length <= longest_fill => Some(Call::Fill { length: length as usize }),
         (b"D", &[]) => Some(Call::ForceData),
         (b"C", &[position]) if extended && position <= 255 => Some(Call::Cue { position: position as usize }),
+        (b"K", &[]) if extended => Some(Call::Lit),
         (b"M", &[byte]) if extended => Some(Call::Keep { byte: u8::try_from(byte).ok()? }),
         (b"S", &[carrier, outbox, places]) if extended && outbox.max(places) <= STRING_ROOM => {
             Some(Call::TypeString { carrier: flag(carrier)?, outbox: outbox as usize, places: places as usize })

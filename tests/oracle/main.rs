@@ -3,7 +3,7 @@
 //!
 //! oracle [--bits] [--ext] < lines
 //!
-//! --bits adds a line to each answer: ring, bytes sent and, for a fill, its samples; for a cue, its sample; for a string, its codes; for bits, the bytes.
+//! --bits adds a line to each answer: ring, bytes sent and, for a fill, its samples; for a cue, its sample and key; for a string, its codes; for bits, the bytes; for K, the key that is lit.
 //! --ext lets T lines give the outbox length and fills be longer than `wall` allows, and adds the lines of 02.
 
 // The Rust is compiled as it is; what 01 leaves out of it is never called.
@@ -16,6 +16,7 @@ mod lines;
 
 use bits::{unframe, Reader};
 use lines::{read_line, Call};
+use lit::Key;
 use set::{Answer, Set};
 use std::io::{self, BufRead, BufReader, BufWriter, Write};
 
@@ -23,10 +24,11 @@ use std::io::{self, BufRead, BufReader, BufWriter, Write};
 enum Second {
     Sent,
     Filled(Vec<f32>),
-    Cued(u64),
+    Cued(u64, Option<Key>),
     Coded(Vec<u8>),
     Read(usize, Vec<u8>),
     Framed(Option<u8>),
+    Lit(Option<Key>),
 }
 
 /// What a buffer holds before its fill, so that a declined one can be told.
@@ -98,7 +100,8 @@ fn perform(set: &mut Set, kept: &mut Vec<u8>, reader: &mut Reader, call: Call) -
         }
         Call::Cue { position } => {
             let (answer, sample) = set.cue(position);
-            (answer, Second::Cued(sample))
+            let key = if answer.refusal == 0 { set.session.key_of(position) } else { None };
+            (answer, Second::Cued(sample, key))
         }
         Call::Keep { byte } => {
             if kept.len() < KEPT {
@@ -124,6 +127,7 @@ fn perform(set: &mut Set, kept: &mut Vec<u8>, reader: &mut Reader, call: Call) -
             let byte = unframe(&frame);
             (Answer::declined(if byte.is_some() { 0 } else { 11 }), Second::Framed(byte))
         }
+        Call::Lit => (Answer::default(), Second::Lit(set.lit)),
     })
 }
 
@@ -144,7 +148,10 @@ fn print_second(out: &mut impl Write, set: &Set, second: Second) -> io::Result<(
             print_sent(out, set)?;
             print_samples(out, &samples)?;
         }
-        Second::Cued(sample) => write!(out, "# cue={sample}")?,
+        Second::Cued(sample, key) => {
+            write!(out, "# cue={sample} key=")?;
+            print_key(out, key)?;
+        }
         Second::Read(taken, given) => {
             write!(out, "# taken={taken} given=")?;
             print_bytes(out, &given)?;
@@ -152,6 +159,10 @@ fn print_second(out: &mut impl Write, set: &Set, second: Second) -> io::Result<(
         Second::Framed(byte) => {
             write!(out, "# byte=")?;
             print_bytes(out, byte.as_slice())?;
+        }
+        Second::Lit(key) => {
+            write!(out, "# key=")?;
+            print_key(out, key)?;
         }
         Second::Coded(codes) => {
             print_sent(out, set)?;
@@ -165,6 +176,13 @@ fn print_second(out: &mut impl Write, set: &Set, second: Second) -> io::Result<(
 fn print_sent(out: &mut impl Write, set: &Set) -> io::Result<()> {
     write!(out, "# ring={} sent=", set.ring())?;
     print_bytes(out, &set.session.sent)
+}
+
+fn print_key(out: &mut impl Write, key: Option<Key>) -> io::Result<()> {
+    match key {
+        Some((row, column)) => write!(out, "{row}{column}"),
+        None => write!(out, "-"),
+    }
 }
 
 fn print_bytes(out: &mut impl Write, bytes: &[u8]) -> io::Result<()> {

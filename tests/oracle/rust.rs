@@ -13,6 +13,7 @@ mod rust_session;
 mod cue;
 mod guard;
 mod left_out;
+mod lit;
 #[path = "stand_in.rs"]
 mod session;
 mod set;

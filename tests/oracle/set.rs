@@ -1,9 +1,10 @@
 //! What 01's set adds to the Rust: the calls it declines, the count m, and the numbers
-//! for states, stages and replies. And 02's E1: a line that ran over is not dialled; and its E6: from the
-//! first S12 line on guard.rs is the AT processor.
+//! for states, stages and replies. And 02's E1: a line that ran over is not dialled; its E6: from the
+//! first S12 line on guard.rs is the AT processor; and its E8: the key of a fill's last sample.
 
 use crate::at::{AtProcessor, Response};
 use crate::guard::{Act, Processor, Step};
+use crate::lit::Key;
 use crate::overture::Stage;
 use crate::rust_session::SessionState;
 use crate::session::Session;
@@ -48,6 +49,8 @@ pub struct Set {
     /// 02's E6, and whether a line set S12 or asked for it.
     guard: Processor,
     s12_line_came: bool,
+    /// 02's E8: the key that the last fill answered.
+    pub lit: Option<Key>,
 }
 
 impl Set {
@@ -61,7 +64,7 @@ impl Set {
 
     fn fresh(rate: u32) -> Self {
         let (at, session, guard) = (AtProcessor::new(), Session::new(rate), Processor::new());
-        Set { at, session, line: Vec::new(), m: 0, guard, s12_line_came: false }
+        Set { at, session, line: Vec::new(), m: 0, guard, s12_line_came: false, lit: None }
     }
 
     pub fn feed(&mut self, byte: u8, carrier: bool, outbox: usize) -> Answer {
@@ -128,6 +131,7 @@ impl Set {
 
     pub fn process_out(&mut self, out: &mut [f32]) -> Answer {
         self.session.begin_call(false);
+        self.lit = None;
         if out.len() > FILL_LIMIT {
             return Answer::declined(3);
         }
@@ -138,6 +142,9 @@ impl Set {
             self.m += out.len() as u64;
         }
         self.session.process_out(out);
+        if !out.is_empty() && self.session.stage() == Some(Stage::Dialling) {
+            self.lit = self.session.key_at(self.m);
+        }
         Answer::default()
     }
 

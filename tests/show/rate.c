@@ -74,6 +74,7 @@ int main(void)
     s.keys = ring(4096 * sizeof(show_key));
     s.events = ring(1024 * sizeof(show_event));
     s.rate = s.made = 48000;
+    unlit(&s);
     expect(gibbonplate_new(&s.set, 48000) == GIBBONPLATE_ACCEPTED, "no set at 48000");
     for (i = 0; i < sizeof none / sizeof *none; i++) {
         type(&s, "ATDT1\r");

@@ -13,6 +13,7 @@ use Rattle.nco.specs.declared.Nco.{Nco}
 use Rattle.nco.specs.Nco.{phaseInRange}
 use Rattle.nco.specs.Lent.{lentSample, lentNco}
 use Rattle.ascii.specs.Front.{putLength}
+use Rattle.keys.specs.declared.Lit.the-variants as lit
 use Rattle.reply.specs.declared.Reply.the-variants.{None}
 use Rattle.reply.specs.Texts.{textOf}
 use Rattle.set.specs.declared.Set.{Set}
@@ -64,6 +65,9 @@ module _ {s : Set} {cause : Refusal} {e : Event} (b : ByCause s cause e) where
 
     pub declined-sent : e .sent ≡ 0
     declined-sent = unchanged .sent
+
+    pub declined-key : e .key ≡ lit.None
+    declined-key = unchanged .key
 
 -- and a string by its own
 module _ {s : Set} {cause : Refusal} {e : StringEvent} (b : StringByCause s cause e) where
@@ -141,7 +145,7 @@ module _ (s : Set) (r : Bool) (d : is-sound.Learnt tt (s, tt) r (s, tt)) where
   pub cue-answers : (p : ℕ)
       → cue.Asked tt (s, (p, tt))
       × ((answer : Cued) → cue.Learnt tt (s, (p, tt)) answer (s, (p, tt))
-      → (answer .refusal ≡ cueCause s p) × ((cueRefusalNumber (answer .refusal) ≡ 0 → ⊥) → answer .sample ≡ 0))
+      → (answer .refusal ≡ cueCause s p) × ((cueRefusalNumber (answer .refusal) ≡ 0 → ⊥) → (answer .sample ≡ 0) × (answer .key ≡ lit.None)))
   cue-answers = told .cue
 
   pub never-4 : ((refusal : Refusal) → refusalNumber refusal ≡ 4 → ⊥) × ((refusal : cueRefusal.Refusal) → cueRefusalNumber refusal ≡ 4 → ⊥)

@@ -14,6 +14,7 @@ use Rattle.nco.specs.declared.Nco.{Nco}
 use Rattle.nco.specs.Nco.{phaseInRange}
 use Rattle.nco.specs.Lent.{lentSample, lentNco}
 use Rattle.ascii.specs.Front.{putLength}
+use Rattle.keys.specs.declared.Lit.the-variants as lit
 use Rattle.reply.specs.Texts.{textOf}
 use Rattle.set.specs.declared.Set.{Set}
 use Rattle.set.specs.declared.Made.{Made}
@@ -70,7 +71,7 @@ pub record Answers (s : Set) : Type 0 where
       → process-out.Asked κs (s, (out, tt))
       × ((left : List Float) (answer : Filled) → process-out.Learnt κs (s, (out, tt)) answer (s, (at-last out left, tt))
       → ByCause s (fillCause s (length (now out))) (filledEvent (now out) left answer))
-  -- a refused ring or cue is 0
+  -- a refused ring or cue is 0; 02, E8: and has no key
   pub ring :
       ring-number.Asked tt (s, tt)
       × ((answer : Rung) → ring-number.Learnt tt (s, tt) answer (s, tt)
@@ -78,7 +79,7 @@ pub record Answers (s : Set) : Type 0 where
   pub cue : (p : ℕ)
       → cue.Asked tt (s, (p, tt))
       × ((answer : Cued) → cue.Learnt tt (s, (p, tt)) answer (s, (p, tt))
-      → (answer .refusal ≡ cueCause s p) × ((cueRefusalNumber (answer .refusal) ≡ 0 → ⊥) → answer .sample ≡ 0))
+      → (answer .refusal ≡ cueCause s p) × ((cueRefusalNumber (answer .refusal) ≡ 0 → ⊥) → (answer .sample ≡ 0) × (answer .key ≡ lit.None)))
   -- 02, E1: number 4 never occurs: no refusal has it, so that no call on any set answers it
   pub never4 : ((refusal : Refusal) → refusalNumber refusal ≡ 4 → ⊥) × ((refusal : cueRefusal.Refusal) → cueRefusalNumber refusal ≡ 4 → ⊥)
   -- the writer of replies: where it writes nothing the buffer keeps its contents

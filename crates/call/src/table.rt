@@ -1,5 +1,6 @@
 // What is printed of a call: a line for each stage and for each digit, its length T, and when the line was up.
 use crate::play;
+use keys::Lit;
 use set::Set;
 
 pub fn print(firsts: &[u32; 11], dialled: Set, up: u32) {
@@ -83,7 +84,7 @@ fn put_digits(page: &mut [u8], at: usize, dialled: Set) -> usize {
     if len == 0 {
         return at;
     }
-    let k = text::put(page, at, b"digit               first             seconds\n");
+    let k = text::put(page, at, b"digit  key          first             seconds\n");
     put_keys(page, k, dialled, &keys, len)
 }
 
@@ -93,18 +94,36 @@ fn put_keys(page: &mut [u8], at: usize, dialled: Set, keys: &[u8], len: usize) -
     let mut i: usize = 0;
     while i < keys.len() && i < len {
         let cued = cue::cue(dialled, play::at_most(i, u32::MAX));
-        k = put_key(page, k, keys[i], cued.sample, dialled.rate());
+        let key = cued.key;
+        k = put_key(page, k, keys[i], key, cued.sample, dialled.rate());
         i += 1;
     }
     k
 }
 
-// A digit, its first sample, and how long after the call's first that is.
-fn put_key(page: &mut [u8], at: usize, key: u8, sample: u64, rate: u32) -> usize {
-    let word = [key];
+// A digit, where its key stands, and when it begins.
+fn put_key(page: &mut [u8], at: usize, digit: u8, key: Lit, sample: u64, rate: u32) -> usize {
+    let k = put_digit(page, at, digit, key);
+    put_first(page, k, sample, rate)
+}
+
+// A digit, and the row and the column of its key.
+fn put_digit(page: &mut [u8], at: usize, digit: u8, key: Lit) -> usize {
+    let word = [digit];
+    let k = put_right(page, at, &word, 1, 5);
+    match key {
+        Lit::Key { row, column } => {
+            let l = put_number(page, k, row as u64, 4);
+            put_number(page, l, column as u64, 1)
+        }
+        Lit::None => put_right(page, k, b"-", 1, 5),
+    }
+}
+
+// Its first sample, and how long after the call's first that is.
+fn put_first(page: &mut [u8], at: usize, sample: u64, rate: u32) -> usize {
     let first = play::at_most(sample as usize, u32::MAX);
-    let mut k = put_right(page, at, &word, 1, 5);
-    k = put_number(page, k, sample, 20);
+    let k = put_number(page, at, sample, 15);
     put_seconds(page, k, between(1, first), rate, 20)
 }
 

@@ -1,4 +1,5 @@
 // A line of output for each call, or for each set: what was answered, and the buffer after it.
+use keys::Lit;
 use set::Set;
 ghost use Prim.Native.Nat.{_≤_};
 
@@ -90,10 +91,12 @@ pub fn fill_long(set: Set) {
     let before = samples::fnv::hash_samples(samples::fnv::OFFSET, &samples);
     let answer = set.process_out(&mut samples);
     let refusal = answer.refusal;
+    let key = answer.key;
     let after = samples::fnv::hash_samples(samples::fnv::OFFSET, &samples);
     let mut k = put_number(&mut page, 0, b"fill of 65537 ", refusal.number() as u64);
     k = put_bits(&mut page, k, before, 16);
     k = put_bits(&mut page, k, after, 16);
+    k = put_key(&mut page, k, key);
     end(&mut page, k);
 }
 
@@ -161,9 +164,11 @@ fn put_filled(page: &mut [u8], at: usize, set: Set) -> usize {
     let mut samples = [1.23f32; 2];
     let answer = set.process_out(&mut samples);
     let refusal = answer.refusal;
+    let key = answer.key;
     let mut k = put_number(page, at, b" fill ", refusal.number() as u64);
     k = put_bits(page, k, samples::bits(samples[0]) as u64, 8);
-    put_bits(page, k, samples::bits(samples[1]) as u64, 8)
+    k = put_bits(page, k, samples::bits(samples[1]) as u64, 8);
+    put_key(page, k, key)
 }
 
 // The readers that work their answer out.
@@ -181,8 +186,21 @@ fn put_readers(page: &mut [u8], at: usize, set: Set) -> usize {
 fn put_cue(page: &mut [u8], at: usize, set: Set, position: u32) -> usize {
     let cued = cue::cue(set, position);
     let refusal = cued.refusal;
-    let k = put_number(page, at, b" cue ", refusal.number() as u64);
-    put_number(page, k, b" ", cued.sample)
+    let key = cued.key;
+    let mut k = put_number(page, at, b" cue ", refusal.number() as u64);
+    k = put_number(page, k, b" ", cued.sample);
+    put_key(page, k, key)
+}
+
+// Its row and its column.
+fn put_key(page: &mut [u8], at: usize, key: Lit) -> usize {
+    match key {
+        Lit::Key { row, column } => {
+            let k = put_number(page, at, b" key ", row as u64);
+            put_number(page, k, b"", column as u64)
+        }
+        Lit::None => text::put(page, at, b" key -"),
+    }
 }
 
 pub fn put_number(page: &mut [u8], at: usize, label: &[u8], number: u64) -> usize {

@@ -57,6 +57,7 @@ module _ (r : ℕ) (ok : rateOk r ≡ true) where
           sound = λ (six : refusalNumber (e .refusal) ≡ 6). never-6 r ok (entryOf k (e .call)) (q .effect .limits) (sym (q .effect .number) ∙ six);
           unchanged = q .unchanged;
           reports = record { count = f .count; state = f .state; stage = f .shown };
+          key = q .effect .key;
         },
         record {
           follows = f;

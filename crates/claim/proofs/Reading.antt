@@ -7,6 +7,7 @@ use mathlib.Core.List.{List, [], _∷_, _++_, map}
 use mathlib.Core.Logic.{_⊎_, _↔_}
 use lib.Ieee.{Float, binary32, toBits, ofBits}
 use lib.ListN.{length, replicate}
+use Rattle.keys.specs.declared.Lit.the-variants as lit
 use Rattle.reply.specs.declared.Reply.the-variants.{None}
 use Rattle.at.specs.declared.AtProcessor.{AtProcessor}
 use Rattle.at.specs.declared.Control.the-variants.{Nothing, Dial}
@@ -20,7 +21,7 @@ use Rattle.set.specs.declared.Refusal.{Refusal}
 use Rattle.set.specs.Refusals.{refusalNumber}
 use Rattle.set.specs.Set.{made}
 use Rattle.set.specs.String.{atFront}
-use Rattle.set.specs.Book.{Book, declined, asks, blank, overture, lengthOf, declinedWith, entered}
+use Rattle.set.specs.Book.{Book, declined, asks, blank, overture, lengthOf, declinedWith, keyAnswered, entered}
 use Rattle.set.specs.Event.{Event, Unchanged, StringEvent, StringUnchanged}
 use Rattle.claim.specs.Trace.{Trace, setAfter}
 use Rattle.claim.specs.Claim.{SinceDial, notCalled, notedFill, noted, AllAtMost, NeverBack, Reports, Answered, AllAnswered, bookAfter, sinceAfter, Played}
@@ -90,6 +91,9 @@ module _ (rate : ℕ) (answer : Made) (d : start.Learnt tt (rate, tt) answer (ra
       pub declined-sent : e .sent ≡ 0
       declined-sent = unchanged .sent
 
+      pub declined-key : e .key ≡ lit.None
+      declined-key = unchanged .key
+
     abbrev after : Book
     after = entered (s .rate) before (e .call)
 
@@ -104,6 +108,9 @@ module _ (rate : ℕ) (answer : Made) (d : start.Learnt tt (rate, tt) answer (ra
 
     pub reports-stage : e .set .session .shown ≡ after .shown
     reports-stage = reports .stage
+
+    pub key-is : e .key ≡ keyAnswered (s .rate) before (e .call)
+    key-is = answered .key
 
   -- a string: in limits it counts as its bytes
   module _ (xs : List Step) (e : StringEvent) (later : List Step) (t : History s (xs ++ string e ∷ later)) where

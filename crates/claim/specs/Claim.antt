@@ -15,7 +15,7 @@ use Rattle.schedule.specs.Bounds.{TotalBounds}
 use Rattle.passage.specs.Overture.{HasLength}
 use Rattle.set.specs.declared.Set.{Set}
 use Rattle.set.specs.Refusals.{refusalNumber, Declined}
-use Rattle.set.specs.Book.{Call, Book, overture, lengthOf, Entry, declined, asks, fills, entryOf, declinedWith, entered}
+use Rattle.set.specs.Book.{Call, Book, overture, lengthOf, Entry, declined, asks, fills, entryOf, declinedWith, keyAnswered, entered}
 use Rattle.set.specs.Event.{Event, Unchanged}
 
 -- ---- since the last dial line
@@ -89,12 +89,14 @@ pub record Reports (s : Set) (k : Book) : Type 0 where
   pub state : s .session .state ≡ k .state
   pub stage : s .session .shown ≡ k .shown
 
--- the call is declined with the book's number, never with 6; a declined call changes nothing; then the set reports what the book says
+-- the call is declined with the book's number, never with 6; a declined call changes nothing; then the set reports what the book says. 02, E8: the
+-- key answered is the book's: after a fill that is not declined that of the overture's sample m
 pub record Answered (r : ℕ) (s : Set) (k : Book) (e : Event) : Type 0 where
   pub number : refusalNumber (e .refusal) ≡ declinedWith k (e .call)
   pub sound : refusalNumber (e .refusal) ≡ 6 → ⊥
   pub unchanged : Declined (e .refusal) → Unchanged s e
   pub reports : Reports (e .set) (entered r k (e .call))
+  pub key : e .key ≡ keyAnswered r k (e .call)
 
 abbrev pub AllAnswered : ℕ → Set → Book → List Event → Type 0
 AllAnswered r s k [] = Unit {0}

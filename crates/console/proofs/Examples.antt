@@ -3,7 +3,7 @@ use Prim.Native.String.{String}
 use mathlib.Core.Bool.{true, false}
 use mathlib.Core.Path.{_≡_, refl}
 use Rattle.console.specs.declared.lines.Call.{Call}
-use Rattle.console.specs.declared.lines.Call.the-variants.{Rate, Typed, Lapse, Fill, ForcedData, Cue, Kept, String as string, Bits, Frame, Other}
+use Rattle.console.specs.declared.lines.Call.the-variants.{Rate, Typed, Lapse, Fill, ForcedData, Cue, Kept, String as string, Bits, Frame, Key, Other}
 use Rattle.console.specs.Lines.{cut, fieldsOf, allDigits, valueFrom, numberIf, numberOf, also, numbersOf, fillIf, fillCall, typedIf, typedCall, lapseIf, lapseCall, cueIf, cueCall, keptIf, keptCall, bitsIf, bitsCall, stringIf, stringCall, bareCall, addedCall, oneCall, twoCall, threeCall, numbersCall, letterCall, fieldsCall, callOf}
 use Rattle.ascii.specs.Ascii.{ascii}
 
@@ -27,9 +27,10 @@ calls : (plain "R,8000" ≡ Rate 8000)
     × (extended "S,1,1200,0" ≡ string true 1200 0)
     × (extended "B,64" ≡ Bits 64)
     × (extended "U" ≡ Frame)
+    × (extended "K" ≡ Key)
     × (plain "R,99999999999999999999999" ≡ Rate 4294967295)
 unfolding plain extended cut fieldsOf allDigits valueFrom numberIf numberOf also numbersOf fillIf fillCall typedIf typedCall lapseIf lapseCall cueIf cueCall keptIf keptCall bitsIf bitsCall stringIf stringCall bareCall addedCall oneCall twoCall threeCall numbersCall letterCall fieldsCall callOf
-calls = (refl, refl, refl, refl, refl, refl, refl, refl, refl, refl, refl, refl, refl, refl)
+calls = (refl, refl, refl, refl, refl, refl, refl, refl, refl, refl, refl, refl, refl, refl, refl)
 
 others : (plain "" ≡ Other)
     × (plain "R," ≡ Other)
@@ -59,5 +60,7 @@ others : (plain "" ≡ Other)
     × (extended "B,65" ≡ Other)
     × (plain "U" ≡ Other)
     × (extended "U,0" ≡ Other)
+    × (plain "K" ≡ Other)
+    × (extended "K,0" ≡ Other)
 unfolding plain extended cut fieldsOf allDigits valueFrom numberIf numberOf also numbersOf fillIf fillCall typedIf typedCall lapseIf lapseCall cueIf cueCall keptIf keptCall bitsIf bitsCall stringIf stringCall bareCall addedCall oneCall twoCall threeCall numbersCall letterCall fieldsCall callOf
-others = (refl, refl, refl, refl, refl, refl, refl, refl, refl, refl, refl, refl, refl, refl, refl, refl, refl, refl, refl, refl, refl, refl, refl, refl, refl, refl, refl, refl)
+others = (refl, refl, refl, refl, refl, refl, refl, refl, refl, refl, refl, refl, refl, refl, refl, refl, refl, refl, refl, refl, refl, refl, refl, refl, refl, refl, refl, refl, refl, refl)

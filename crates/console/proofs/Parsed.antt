@@ -167,7 +167,7 @@ module _ (x : Bool) (letter : ℕ) where
   first f (g ∷ gs) (nothing e a c) = rw e (lost gs _ g c)
 
 -- ---- the first field
-bare-letter : (x : Bool) (letter : ℕ) → answerOf (foldl plainOf (freshOf x) (letter ∷ [])) ≡ bareCall (is "D" letter) (x && is "U" letter)
+bare-letter : (x : Bool) (letter : ℕ) → answerOf (foldl plainOf (freshOf x) (letter ∷ [])) ≡ bareCall (is "D" letter) (x && is "U" letter) (x && is "K" letter)
 unfolding freshOf plainOf plainIf letterOf letterIf answerOf answerIf
 bare-letter x letter = refl
 

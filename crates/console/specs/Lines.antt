@@ -7,7 +7,7 @@ use mathlib.Core.List.{List, [], _∷_}
 use mathlib.Core.Option.{Option, some, none}
 use lib.Dec.{leb, ltb, eqb}
 use Rattle.console.specs.declared.lines.Call.{Call}
-use Rattle.console.specs.declared.lines.Call.the-variants.{Rate, Typed, Lapse, Fill, ForcedData, Cue, Kept, String, Bits, Frame, Other}
+use Rattle.console.specs.declared.lines.Call.the-variants.{Rate, Typed, Lapse, Fill, ForcedData, Cue, Kept, String, Bits, Frame, Key, Other}
 
 -- the byte of an ASCII character
 abbrev pub is : Char → ℕ → Bool
@@ -120,11 +120,12 @@ unfoldable pub stringCall : ℕ → ℕ → ℕ → Call
 stringCall carrier outbox codes = stringIf (leb carrier 1 && (leb outbox 1200 && leb codes 1200)) carrier outbox codes
 
 -- D alone; R or F and one number; T or W and two, with an outbox of 16 for T; in `tap --ext` T or S and three, C, M or B and one number, and
--- U alone
-unfoldable pub bareCall : Bool → Bool → Call
-bareCall true isU = ForcedData
-bareCall false true = Frame
-bareCall false false = Other
+-- U or K alone
+unfoldable pub bareCall : Bool → Bool → Bool → Call
+bareCall true isU isK = ForcedData
+bareCall false true isK = Frame
+bareCall false false true = Key
+bareCall false false false = Other
 
 unfoldable pub addedCall : Bool → Bool → Bool → ℕ → Call
 addedCall true isM isB n = cueCall n
@@ -149,7 +150,7 @@ threeCall false true n m o = stringCall n m o
 threeCall false false n m o = Other
 
 unfoldable pub numbersCall : Bool → ℕ → List ℕ → Call
-numbersCall extended letter [] = bareCall (is "D" letter) (extended && is "U" letter)
+numbersCall extended letter [] = bareCall (is "D" letter) (extended && is "U" letter) (extended && is "K" letter)
 numbersCall extended letter (n ∷ []) = oneCall (is "R" letter) (is "F" letter) extended letter n
 numbersCall extended letter (n ∷ m ∷ []) = twoCall (is "T" letter) (is "W" letter) n m
 numbersCall extended letter (n ∷ m ∷ o ∷ []) = threeCall (extended && is "T" letter) (extended && is "S" letter) n m o

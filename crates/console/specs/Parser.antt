@@ -115,7 +115,7 @@ severalOf false false p = threeCall (p .extended && is "T" (p .letter)) (p .exte
 
 unfoldable pub answerIf : Bool → Bool → Bool → Bool → Parser → Call
 answerIf true isBare isEmpty isOne p = Other
-answerIf false true isEmpty isOne p = bareCall (is "D" (p .letter)) (p .extended && is "U" (p .letter))
+answerIf false true isEmpty isOne p = bareCall (is "D" (p .letter)) (p .extended && is "U" (p .letter)) (p .extended && is "K" (p .letter))
 answerIf false false true isOne p = Other
 answerIf false false false true p = oneCall (is "R" (p .letter)) (is "F" (p .letter)) (p .extended) (p .letter) (p .number)
 answerIf false false false false p = severalOf (p .over) (eqb (p .commas) 2) p

@@ -38,6 +38,8 @@ pub enum Call {
     Bits(usize),
     // The string that is kept is taken as one frame.
     Frame,
+    // The key that the last fill answered.
+    Key,
     Other,
 }
 
@@ -240,13 +242,16 @@ fn overflows(number: u64, digit: u8) -> bool
 
 // A letter and nothing else.
 fn bare(extended: bool, letter: u8) -> Call
-    ensures { λ r. ⌜ r ≡ bareCall (is "D" letter) (extended && is "U" letter) ⌝ }
+    ensures { λ r. ⌜ r ≡ bareCall (is "D" letter) (extended && is "U" letter) (extended && is "K" letter) ⌝ }
 {
     if letter == b'D' {
         return Call::ForcedData;
     }
     if extended & (letter == b'U') {
         return Call::Frame;
+    }
+    if extended & (letter == b'K') {
+        return Call::Key;
     }
     Call::Other
 }

@@ -1,13 +1,17 @@
--- What the contract of `cue` tells of every set: its refusal is 01's cause, a refused cue is 0, and another lies in the digit's tone, which no smaller
--- number does. A contract that says less is refused here. And the example of 01's table: "12" at position 2. Assumes nothing.
+-- What the contract of `cue` tells of every set: its refusal is 01's cause, a refused cue is 0 and has no key, and another lies in the digit's tone,
+-- which no smaller number does, and has the key of that sample. A contract that says less is refused here. And the example of 01's table: "12" at position 2. Assumes nothing.
 use Prim.Native.Nat.{ℕ, suc, _≤_}
-use mathlib.Core.Path.{_≡_, refl, ap, _∙_}
+use mathlib.Core.Path.{_≡_, refl, sym, ap, _∙_}
 use mathlib.Core.Bool.{true}
 use lib.Dec.{lit≤}
 use Rattle.math.specs.Float.{ofNat}
 use Rattle.nco.specs.Nco.{stepOf}
+use Rattle.keys.specs.declared.Lit.{Lit}
+use Rattle.keys.specs.declared.Lit.the-variants as lit
 use Rattle.stage.specs.declared.StageState.the-variants.{Dialling}
-use Rattle.tones.specs.Dial.{digitTones}
+use Rattle.stage.specs.declared.StageState.{StageState}
+use Rattle.stage.specs.Stage.{keyOf}
+use Rattle.tones.specs.Dial.{digitTones, dialledKey}
 use Rattle.overture.specs.Iteration.{after}
 use Rattle.overture.specs.Iteration as overture
 use Rattle.ascii.specs.Ascii.{ascii}
@@ -28,13 +32,13 @@ use Rattle.cue.specs.declared.Refusal.{Refusal}
 use Rattle.cue.specs.declared.Refusal.the-variants.{Accepted, Unsound, Position}
 use Rattle.cue.specs.declared.Cued.{Cued}
 use Rattle.cue.specs.Cue.{cueRefusalNumber, cueCause, cuedBy, cued}
-use Rattle.cue.proofs.Cueing.{declined-cued}
+use Rattle.cue.proofs.Cueing.{accepted-cued, declined-cued}
 use Rattle.cue.proofs.cue.Reads as cue
 
-refusal-is : (c : Refusal) (m : ℕ) → cuedBy c m .refusal ≡ c
-refusal-is Accepted m = refl
-refusal-is Unsound m = refl
-refusal-is Position m = refl
+refusal-is : (c : Refusal) (m : ℕ) (key : Lit) → cuedBy c m key .refusal ≡ c
+refusal-is Accepted m key = refl
+refusal-is Unsound m key = refl
+refusal-is Position m key = refl
 
 module _ (s : Set) (p : ℕ) (answer : Cued) (d : cue.Learnt tt (s, (p, tt)) answer (s, (p, tt))) where
   -- the definition's answer
@@ -43,11 +47,11 @@ module _ (s : Set) (p : ℕ) (answer : Cued) (d : cue.Learnt tt (s, (p, tt)) ans
 
   refused : answer .refusal ≡ cueCause s p
   unfolding cued
-  refused = ap (λ (c : Cued). c .refusal) cue-is ∙ refusal-is (cueCause s p) _
+  refused = ap (λ (c : Cued). c .refusal) cue-is ∙ refusal-is (cueCause s p) _ _
 
-  pub cue-answers : (answer .refusal ≡ cueCause s p) × ((cueRefusalNumber (answer .refusal) ≡ 0 → ⊥) → answer .sample ≡ 0)
+  pub cue-answers : (answer .refusal ≡ cueCause s p) × ((cueRefusalNumber (answer .refusal) ≡ 0 → ⊥) → (answer .sample ≡ 0) × (answer .key ≡ lit.None))
   unfolding cued
-  cue-answers = (refused, λ no. ap (λ (c : Cued). c .sample) (cue-is ∙ declined-cued (cueCause s p) _ (rw refused at no)))
+  cue-answers = (refused, λ no. let told = cue-is ∙ declined-cued (cueCause s p) _ _ (rw refused at no) in (ap (λ (c : Cued). c .sample) told, ap (λ (c : Cued). c .key) told))
 
   module _ (accepted : cueRefusalNumber (answer .refusal) ≡ 0) where
     pub in-tone : InDigitTone (digitsHeld (s .session)) (s .rate) p (answer .sample)
@@ -63,6 +67,16 @@ module _ (s : Set) (p : ℕ) (answer : Cued) (d : cue.Learnt tt (s, (p, tt)) ans
         after (in-tone .before) (overture.fresh (digitsHeld (s .session)) (s .rate)) (digitsHeld (s .session)) (s .rate)
         ≡ Dialling p true (in-tone .a) (in-tone .b) (in-tone .n)
     cue-plays = in-tone .state
+
+    pub cue-key : answer .key ≡ dialledKey (digitsHeld (s .session)) p true
+    unfolding cued
+    cue-key = ap (λ (c : Cued). c .key) (cue-is ∙ accepted-cued (cueCause s p) _ _ (rw refused at accepted))
+
+    -- which is the key of the cue's sample
+    pub cue-lights :
+        answer .key
+        ≡ keyOf (after (in-tone .before) (overture.fresh (digitsHeld (s .session)) (s .rate)) (digitsHeld (s .session)) (s .rate)) (digitsHeld (s .session))
+    cue-lights = cue-key ∙ sym (ap (λ (x : StageState). keyOf x (digitsHeld (s .session))) cue-plays)
 
     pub cue-low : in-tone .a .step ≡ stepOf (digitTones (digitsHeld (s .session)) p .low) (ofNat (s .rate))
     cue-low = in-tone .low

@@ -10,6 +10,8 @@ use lib.ListN.{length}
 use lib.Seq.{length-take-le}
 use borrow.Author.Tests.{ltb-true, eqb-true, le-leb}
 use Rattle.math.specs.Float.{one}
+use Rattle.keys.specs.declared.Lit.{Lit}
+use Rattle.keys.specs.declared.Lit.the-variants as lit
 use Rattle.schedule.specs.Time.{samplesIn}
 use Rattle.schedule.specs.Length.{clickTime, diallingSamples}
 use Rattle.schedule.proofs.Lengths.{dialling-range}
@@ -35,15 +37,15 @@ few-samples zero r h lo hi = lit≤ tt
 few-samples (suc p) r h lo hi = dialling-range r lo hi (suc p) (le-of-lt h) .1
 
 -- an answer is by its refusal's number
-pub accepted-cued : (c : Refusal) (m : ℕ) → cueRefusalNumber c ≡ 0 → cuedBy c m ≡ record { refusal = c; sample = m }
-accepted-cued Accepted m e = refl
-accepted-cued Unsound m e = absurd (omega arith)
-accepted-cued Position m e = absurd (omega arith)
+pub accepted-cued : (c : Refusal) (m : ℕ) (key : Lit) → cueRefusalNumber c ≡ 0 → cuedBy c m key ≡ record { refusal = c; sample = m; key = key }
+accepted-cued Accepted m key e = refl
+accepted-cued Unsound m key e = absurd (omega arith)
+accepted-cued Position m key e = absurd (omega arith)
 
-pub declined-cued : (c : Refusal) (m : ℕ) → (cueRefusalNumber c ≡ 0 → ⊥) → cuedBy c m ≡ record { refusal = c; sample = 0 }
-declined-cued Accepted m e = absurd (e refl)
-declined-cued Unsound m e = refl
-declined-cued Position m e = refl
+pub declined-cued : (c : Refusal) (m : ℕ) (key : Lit) → (cueRefusalNumber c ≡ 0 → ⊥) → cuedBy c m key ≡ record { refusal = c; sample = 0; key = lit.None }
+declined-cued Accepted m key e = absurd (e refl)
+declined-cued Unsound m key e = refl
+declined-cued Position m key e = refl
 
 module _ (s : Set) (p : ℕ) (accepted : cueRefusalNumber (cueCause s p) ≡ 0) where
   able : (sound s ≡ true) × (cuable s p ≡ true)
@@ -61,6 +63,9 @@ module _ (s : Set) (p : ℕ) (accepted : cueRefusalNumber (cueCause s p) ≡ 0) 
 
   below : p < s .session .digits .len
   below = ltb-true _ _ (and-eq-true-iff (eqb (stateNumber (s .session .state)) 1) _ .0 (able .1) .1)
+
+  pub few-digits : s .session .digits .len ≤ 76
+  few-digits = sound-digits s (able .0)
 
   -- the set's rate is in limits, and the position that of a digit
   pub in-limits : (p < 76) × (8000 ≤ s .rate) × (s .rate ≤ 192000)

@@ -1,10 +1,13 @@
-// The cue: for a digit of the call, the first sample of that digit's tone, so that a light can be set to it.
+// The cue: for a digit of the call, the first sample of that digit's tone, so that a light can be set to it, and its key.
+use keys::Lit;
 use set::Set;
 ghost use mathlib.Core.Path.{_≡_};
+ghost use mathlib.Core.Bool.{true};
 ghost use Prim.Native.Nat.{_+_, _<_, _≤_};
 ghost use Rattle.math.specs.Float.{one};
 ghost use Rattle.schedule.specs.Time.{samplesIn, minRate, maxRate};
 ghost use Rattle.schedule.specs.Length.{clickTime};
+ghost use Rattle.tones.specs.Dial.{dialledKey};
 ghost use Rattle.passage.specs.Lengths.{samplesOfDigits};
 ghost use Rattle.passage.specs.Cue.{FirstInTone};
 ghost use Rattle.session.specs.Session.{digitsHeld};
@@ -20,6 +23,8 @@ pub enum Refusal {
 pub struct Cued {
     pub refusal: Refusal,
     pub sample: u64,
+    // that of the digit
+    pub key: Lit,
 }
 
 impl Refusal {
@@ -57,6 +62,18 @@ fn cue_sample(position: u32, rate: u32) -> u64
     click + tone + digits + 1
 }
 
+// The key of the digit at a position.
+fn cue_key(set: Set, position: u32) -> Lit
+    requires { ⌜ set .session .digits .len ≤ 76 ⌝ }
+    ensures { λ r. ⌜ r ≡ dialledKey (digitsHeld (set .session)) position true ⌝ }
+{
+    let digits = set.digits();
+    let keys = digits.keys;
+    let len = digits.len;
+    let from: usize = 0;
+    tones::dialled_key(&keys[from..len], position as u64, true)
+}
+
 fn cue_cause(set: Set, position: u32) -> Refusal
     ensures { λ r. ⌜ r ≡ cueCause set position ⌝ }
 {
@@ -72,7 +89,7 @@ fn cue_cause(set: Set, position: u32) -> Refusal
     Refusal::Unsound
 }
 
-// The first sample number, from 1 in the whole overture, in the tone of the digit at a position.
+// The first sample number, from 1 in the whole overture, in the tone of the digit at a position, and the digit's key.
 pub fn cue(set: Set, position: u32) -> Cued
     ensures { λ c. ⌜ c ≡ cued set position ⌝ }
     ensures { λ c. ⌜ (cueRefusalNumber (c .refusal) ≡ 0 → FirstInTone (digitsHeld (set .session)) (set .rate) position (c .sample)) ⌝ }
@@ -80,7 +97,16 @@ pub fn cue(set: Set, position: u32) -> Cued
     let refusal = cue_cause(set, position);
     if refusal.number() == 0 {
         let sample = cue_sample(position, set.rate);
-        return Cued { refusal, sample };
+        let key = cue_key(set, position);
+        return Cued {
+            refusal,
+            sample,
+            key,
+        };
     }
-    Cued { refusal, sample: 0 }
+    Cued {
+        refusal,
+        sample: 0,
+        key: Lit::None,
+    }
 }

@@ -7,6 +7,8 @@ use mathlib.Core.List.{List, [], _∷_}
 use lib.Dec.{leb}
 use lib.Ieee.{Float}
 use lib.ListN.{length}
+use Rattle.keys.specs.declared.Lit.{Lit}
+use Rattle.keys.specs.declared.Lit.the-variants as lit
 use Rattle.reply.specs.declared.Reply.{Reply}
 use Rattle.reply.specs.Codes.{firstOf, secondOf}
 use Rattle.set.specs.Refusals.{refusalNumber}
@@ -46,18 +48,25 @@ pub record ForceCall (before after : Memory) (number : ℕ) : Type 0 where
   pub refusal : number ≡ refusalNumber (forced (loaded before) .refusal)
   pub memory : after ≡ kept number (forced (loaded before) .set) before
 
-pub record FillCall (before after : Memory) (was is : List Float) (number : ℕ) : Type 0 where
+-- 02, E8: a key in memory: its row and its column, 255 for none
+abbrev pub keyNumbers : Lit → List ℕ
+keyNumbers (lit.Key row column) = row ∷ column ∷ []
+keyNumbers lit.None = 255 ∷ 255 ∷ []
+
+pub record FillCall (before after : Memory) (was is : List Float) (lights : List ℕ) (number : ℕ) : Type 0 where
   pub refusal : number ≡ refusalNumber (fill (loaded before) (length was) .refusal)
   pub memory : after ≡ kept number (fill (loaded before) (length was) .set) before
   pub samples : is ≡ buffer (loaded before) was
+  pub key : lights ≡ keyNumbers (fill (loaded before) (length was) .key)
 
 pub record RingCall (before : Memory) (value number : ℕ) : Type 0 where
   pub refusal : number ≡ refusalNumber (rung (loaded before) .refusal)
   pub ring : value ≡ rung (loaded before) .ring
 
-pub record CueCall (before : Memory) (position value number : ℕ) : Type 0 where
+pub record CueCall (before : Memory) (position value : ℕ) (lights : List ℕ) (number : ℕ) : Type 0 where
   pub refusal : number ≡ cueRefusalNumber (cued (loaded before) position .refusal)
   pub sample : value ≡ cued (loaded before) position .sample
+  pub key : lights ≡ keyNumbers (cued (loaded before) position .key)
 
 -- C in command mode, D in data mode
 abbrev pub letter : Bool → ℕ

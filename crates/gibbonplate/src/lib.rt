@@ -1,5 +1,6 @@
 // The set for C programs, under the names of include/gibbonplate.h. A set lies in memory that the caller lends: six arrays, which the
 // header has in one struct. Each function here is the set's call between a load and a store, and a declined call leaves the memory as it was.
+use keys::Lit;
 use memory::MARKS;
 use set::Set;
 ghost use mathlib.Core.Path.{_≡_};
@@ -15,7 +16,7 @@ ghost use Rattle.reply.specs.Texts.{textOf};
 ghost use Rattle.at.specs.Processor.{commandMode};
 ghost use Rattle.session.specs.Session.{stateNumber};
 ghost use Rattle.gibbonplate.specs.Memory.{memory, loaded};
-ghost use Rattle.gibbonplate.specs.Calls.{NewCall, FeedCall, StringCall, TimeCall, ForceCall, FillCall, RingCall, CueCall, letter, heldCount};
+ghost use Rattle.gibbonplate.specs.Calls.{NewCall, FeedCall, StringCall, TimeCall, ForceCall, FillCall, RingCall, CueCall, keyNumbers, letter, heldCount};
 
 mod memory;
 mod plain;
@@ -138,6 +139,16 @@ pub extern "C" fn gibbonplate_force_data_mode_in(
     number
 }
 
+// Row and column; 255 for none.
+fn key_numbers(key: Lit) -> [u8; 2]
+    ensures { λ r. ⌜ r ≡ keyNumbers key ⌝ }
+{
+    match key {
+        Lit::Key { row, column } => [row, column],
+        Lit::None => [255, 255],
+    }
+}
+
 #[no_mangle]
 pub extern "C" fn gibbonplate_process_out_in(
     longs: &mut [u64; 5],
@@ -147,14 +158,17 @@ pub extern "C" fn gibbonplate_process_out_in(
     line: &mut [u8; 80],
     keys: &mut [u8; 76],
     samples: &mut [f32],
+    key: &mut [u8; 2],
 ) -> u8
-    ensures { λ r. ⌜ FillCall (memory (now (longs .entry)) (now (counts .entry)) (now (reals .entry)) (now (marks .entry)) (now (line .entry)) (now (keys .entry))) (memory (now (longs .exit)) (now (counts .exit)) (now (reals .exit)) (now (marks .exit)) (now (line .exit)) (now (keys .exit))) (now (samples .entry)) (now (samples .exit)) r ⌝ }
+    ensures { λ r. ⌜ FillCall (memory (now (longs .entry)) (now (counts .entry)) (now (reals .entry)) (now (marks .entry)) (now (line .entry)) (now (keys .entry))) (memory (now (longs .exit)) (now (counts .exit)) (now (reals .exit)) (now (marks .exit)) (now (line .exit)) (now (keys .exit))) (now (samples .entry)) (now (samples .exit)) (now (key .exit)) r ⌝ }
 {
     let set = memory::load(longs, counts, reals, marks, line, keys);
     let filled = set.process_out(samples);
     let after = filled.set;
+    let lit = filled.key;
     let refusal = filled.refusal;
     let number = refusal.number();
+    *key = key_numbers(lit);
     memory::keep(number, after, longs, counts, reals, marks, line, keys);
     number
 }
@@ -188,12 +202,15 @@ pub extern "C" fn gibbonplate_cue_in(
     keys: &[u8; 76],
     position: u32,
     sample: &mut u64,
+    key: &mut [u8; 2],
 ) -> u8
-    ensures { λ r. ⌜ CueCall (memory (now (longs .entry)) (now (counts .entry)) (now (reals .entry)) (now (marks .entry)) (now (line .entry)) (now (keys .entry))) position (now (sample .exit)) r ⌝ }
+    ensures { λ r. ⌜ CueCall (memory (now (longs .entry)) (now (counts .entry)) (now (reals .entry)) (now (marks .entry)) (now (line .entry)) (now (keys .entry))) position (now (sample .exit)) (now (key .exit)) r ⌝ }
 {
     let set = memory::load(longs, counts, reals, marks, line, keys);
     let cued = cue::cue(set, position);
+    let lit = cued.key;
     *sample = cued.sample;
+    *key = key_numbers(lit);
     let refusal = cued.refusal;
     refusal.number()
 }

@@ -1,19 +1,19 @@
--- A key has one of the four rows and one of the four columns, so its tones are one of the four low and one of the four high ones.
--- A key's place is below 16, and a search that has passed some keys goes on among the rest. Assumes nothing.
-use Prim.Native.Nat.{ℕ, zero, suc, _+_, _<_, _≤_}
+-- A key has one of the four rows and one of the four columns, so its tones are one of the four low and one of the four high ones; and at its row
+-- and column the keypad has the key itself. A key's place is below 16, and a search that has passed some keys goes on among the rest. Assumes nothing.
+use Prim.Native.Nat.{ℕ, zero, suc, _+_, _*_, _/_, _%_, _<_, _≤_}
 use native.Mathlib.Nat.{not-suc-le-zero, le-of-suc-le-suc}
 use native.Mathlib.Numerals.{add-one}
 use native.Mathlib.Omega.{arith}
-use mathlib.Core.Path.{_≡_, refl}
-use mathlib.Core.Bool.{true, false}
+use mathlib.Core.Path.{_≡_, refl, sym, ap, _∙_}
+use mathlib.Core.Bool.{Bool, true, false, cond}
 use mathlib.Core.List.{List, [], _∷_, map}
 use lib.Dec.{eqb}
 use lib.Ieee.{nan}
 use lib.ListN.{length, getD, drop, drop-of-length-le}
 use lib.Seq.{drop-cons}
-use borrow.Author.Tests.{ltb-true}
+use borrow.Author.Tests.{ltb-true, eqb-true}
 use Rattle.keys.specs.declared.Tones.the-variants.{Key, NoKey}
-use Rattle.keys.specs.Keys.{rows, columns, placeIn, keyPlace, keyRow, keyColumn, isKey, hertz, tonesOf}
+use Rattle.keys.specs.Keys.{rows, columns, keypad, placeIn, keyPlace, keyRow, keyColumn, isKey, hertz, tonesAt, tonesOf, keyAt, NamesKey}
 
 -- the search, key after key
 pub place-found : (b : ℕ) (ks : List ℕ) (i : ℕ) → i < length ks → eqb b (getD ks i 0) ≡ true → placeIn b (drop i ks) + i ≡ i
@@ -24,6 +24,16 @@ place-passed b ks i h e = rw (add-one, drop-cons ks i 0 h, e) (omega arith)
 
 pub place-none : (b : ℕ) (ks : List ℕ) (i : ℕ) → length ks ≤ i → placeIn b (drop i ks) + i ≡ i
 place-none b ks i h = rw (drop-of-length-le ks h) (omega arith)
+
+-- what is found among some keys is the one at its place
+at-its-place : (b : ℕ) (ks : List ℕ) → placeIn b ks < length ks → getD ks (placeIn b ks) 0 ≡ b
+at-its-place b [] h = absurd (not-suc-le-zero h)
+at-its-place b (k ∷ ks) h = go (eqb b k) refl h (at-its-place b ks)
+  where
+    go : (t : Bool) → eqb b k ≡ t → cond t 0 (suc (placeIn b ks)) < suc (length ks) → (placeIn b ks < length ks → getD ks (placeIn b ks) 0 ≡ b)
+        → getD (k ∷ ks) (cond t 0 (suc (placeIn b ks))) 0 ≡ b
+    go true e h later = sym (eqb-true b k e)
+    go false e h later = later (le-of-suc-le-suc h)
 
 -- the frequencies as the code has them
 pub tone-at : (ns : List ℕ) (k : ℕ) → k < length ns → getD (map hertz ns) k nan ≡ hertz (getD ns k 0)
@@ -47,9 +57,25 @@ module _ (b : ℕ) (key : isKey b ≡ true) where
   unfolding keyColumn
   key-column = omega arith
 
-  pub key-tones : tonesOf b ≡ Key (hertz (getD rows (keyRow b) 0)) (hertz (getD columns (keyColumn b) 0))
+  pub key-named : keyAt (keyRow b) (keyColumn b) ≡ b
+  unfolding isKey keyRow keyColumn
+  key-named = ap (λ (p : ℕ). getD keypad p 0) (whole (keyPlace b)) ∙ at-its-place b keypad (ltb-true (keyPlace b) 16 key)
+    where
+      whole : (p : ℕ) → 4 * (p / 4) + p % 4 ≡ p
+      whole p = omega arith
+
+  pub key-tones : tonesOf b ≡ Key (hertz (getD rows (keyRow b) 0)) (hertz (getD columns (keyColumn b) 0)) (keyRow b) (keyColumn b)
   unfolding tonesOf
   key-tones = rw key
+
+-- 02, E8: row and column name the same key as the digit
+pub names-key : (b : ℕ) → NamesKey b (tonesOf b)
+unfolding tonesOf
+names-key b = go (isKey b) refl
+  where
+    go : (k : Bool) → isKey b ≡ k → NamesKey b (tonesAt k (keyRow b) (keyColumn b))
+    go true e = (key-row b e, key-column b e, key-named b e)
+    go false e = tt
 
 pub no-tones : (b : ℕ) → isKey b ≡ false → tonesOf b ≡ NoKey
 unfolding tonesOf

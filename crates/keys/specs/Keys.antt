@@ -1,5 +1,6 @@
--- 01, "Keys and frames": Q.23's keypad with the two tones of each key, and the digits of a dial line.
-use Prim.Native.Nat.{ℕ, suc, _-_, _/_, _%_}
+-- 01, "Keys and frames": Q.23's keypad with the two tones of each key, and the digits of a dial line. And 02, E8: a key's row and column.
+use Prim.Native.Nat.{ℕ, suc, _+_, _-_, _*_, _/_, _%_, _<_}
+use mathlib.Core.Path.{_≡_}
 use mathlib.Core.Bool.{Bool, true, false, cond, _&&_}
 use mathlib.Core.List.{List, [], _∷_, _++_, map}
 use lib.Dec.{eqb, ltb}
@@ -45,13 +46,23 @@ isKey b = ltb (keyPlace b) (length keypad)
 abbrev pub hertz : ℕ → Float
 hertz n = ofInt binary64 (pos n)
 
+-- 02, E8: "the row and column, 0 to 3 each, beside the two frequencies"
 abbrev pub tonesAt : Bool → ℕ → ℕ → Tones
-tonesAt true row column = Key (hertz (getD rows row 0)) (hertz (getD columns column 0))
+tonesAt true row column = Key (hertz (getD rows row 0)) (hertz (getD columns column 0)) row column
 tonesAt false row column = NoKey
 
 -- a key's tones are those of its row and its column
 unfoldable pub tonesOf : ℕ → Tones
 tonesOf b = tonesAt (isKey b) (keyRow b) (keyColumn b)
+
+-- the keypad's entry at a row and a column
+abbrev pub keyAt : ℕ → ℕ → ℕ
+keyAt row column = getD keypad (4 * row + column) 0
+
+-- "row and column name the same Q.23 key as the digit"
+abbrev pub NamesKey : ℕ → Tones → Type 0
+NamesKey b (Key low high row column) = (row < 4) × (column < 4) × (keyAt row column ≡ b)
+NamesKey b NoKey = Unit {0}
 
 -- the keys among the bytes, others dropped
 unfoldable pub keysOf : List ℕ → List ℕ

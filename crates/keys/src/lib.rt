@@ -1,6 +1,6 @@
 // The keypad of Q.23, and the digits of a dial line.
 ghost use mathlib.Core.Path.{_≡_};
-ghost use Rattle.keys.specs.Keys.{keyPlace, isKey, tonesOf, allKeys, dialledOf};
+ghost use Rattle.keys.specs.Keys.{keyPlace, isKey, tonesOf, NamesKey, allKeys, dialledOf};
 
 // Row by row, four keys to a row.
 const KEYPAD: [u8; 16] = *b"123A456B789C*0#D";
@@ -9,10 +9,21 @@ const ROWS: [f64; 4] = [697.0, 770.0, 852.0, 941.0];
 
 const COLS: [f64; 4] = [1209.0, 1336.0, 1477.0, 1633.0];
 
-// The two frequencies of a key, its row's and its column's.
+// The two frequencies of a key, its row's and its column's, and where it stands on the keypad: row and column, from 0.
 pub enum Tones {
-    Key { low: f64, high: f64 },
+    Key {
+        low: f64,
+        high: f64,
+        row: u8,
+        column: u8,
+    },
     NoKey,
+}
+
+// The key that a drawing of the keypad lights.
+pub enum Lit {
+    Key { row: u8, column: u8 },
+    None,
 }
 
 // The digits of a call: the first `len` bytes, and zeros behind them.
@@ -43,12 +54,20 @@ pub fn is_key(b: u8) -> bool
 
 pub fn dtmf_freqs(b: u8) -> Tones
     ensures { λ r. ⌜ r ≡ tonesOf b ⌝ }
+    ensures { λ r. ⌜ NamesKey b r ⌝ }
 {
     let place = key_place(b);
     if place < 16 {
         let low = ROWS[place / 4];
         let high = COLS[place % 4];
-        return Tones::Key { low, high };
+        let row = (place / 4) as u8;
+        let column = (place % 4) as u8;
+        return Tones::Key {
+            low,
+            high,
+            row,
+            column,
+        };
     }
     Tones::NoKey
 }

@@ -9,7 +9,7 @@ use lib.ListN.{length, take, drop, length-append, length-take, length-drop, drop
 use lib.Ieee.{Float}
 use Rattle.stage.specs.declared.Shown.{Shown}
 use Rattle.stage.specs.declared.StageState.{StageState}
-use Rattle.stage.specs.Stage.{shownOf}
+use Rattle.stage.specs.Stage.{shownOf, waitingOf}
 use Rattle.stage.specs.Next.{onward}
 use Rattle.overture.specs.declared.Wrote.{Wrote}
 use Rattle.overture.specs.Iteration.{after, samples, shownAfter}
@@ -24,13 +24,13 @@ pub record Filling (digits : List ℕ) (r : ℕ) (s₀ : StageState) (was out : 
   pub seen : shown ≡ shownAfter at s₀ digits r
 
 module _ (digits : List ℕ) (r : ℕ) (s₀ : StageState) (was : List Float) where
-  pub fill-start : (x : Shown) → x ≡ shownOf s₀ → Filling digits r s₀ was was s₀ 0 x
+  pub fill-start : (x : Shown) → x ≡ waitingOf s₀ → Filling digits r s₀ was was s₀ 0 x
   unfolding samples after
   fill-start x e = record { count = omega arith; buffer = refl; state = refl; seen = e }
 
-  seen-more : (at k : ℕ) (s : StageState) → s ≡ after at s₀ digits r → 0 < k → ((j : ℕ) → j < k → shownOf (after j s digits r) ≡ shownOf s) → shownOf s ≡ shownAfter (at + k) s₀ digits r
+  seen-more : (at k : ℕ) (s : StageState) → s ≡ after at s₀ digits r → 0 < k → ((j : ℕ) → j < k → shownOf (after j s digits r) digits ≡ shownOf s digits) → shownOf s digits ≡ shownAfter (at + k) s₀ digits r
   seen-more at zero s e l f = absurd (not-suc-le-zero l)
-  seen-more at (suc j) s e l f = rw add-suc (sym (ap shownOf (after-add digits r at j s₀ ∙ ap (λ (x : StageState). after j x digits r) (sym e)) ∙ f j (omega arith)))
+  seen-more at (suc j) s e l f = rw add-suc (sym (ap (λ (x : StageState). shownOf x digits) (after-add digits r at j s₀ ∙ ap (λ (x : StageState). after j x digits r) (sym e)) ∙ f j (omega arith)))
 
   module _ (out : List Float) (s : StageState) (at : ℕ) (x : Shown) (F : Filling digits r s₀ was out s at x) where
     pub fill-long : length out ≡ length was
@@ -48,7 +48,7 @@ module _ (digits : List ℕ) (r : ℕ) (s₀ : StageState) (was : List Float) wh
       pub fits-in : at + w .written ≤ length was
       fits-in = omega (arith, W .fits, rest, F .count)
 
-      pub fill-again : (y : Shown) → y ≡ shownOf s → (t : StageState) → t ≡ onward (w .ended) (w .state) digits r
+      pub fill-again : (y : Shown) → y ≡ shownOf s digits → (t : StageState) → t ≡ onward (w .ended) (w .state) digits r
           → Filling digits r s₀ was (take at out ++ (ys ++ drop (length out - at) (drop at out))) t (at + w .written) y
       fill-again y e t et = record {
         count = fits-in;

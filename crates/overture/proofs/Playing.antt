@@ -98,7 +98,7 @@ pub record Plays {X : Type 0} (f : Source X) (at : X → ℕ → StageState) (en
   pub sample : (j : ℕ) → j < count → sampleNext (at (left f j x) j) digits r ≡ f .sample (left f j x)
   pub next : (j : ℕ) → j < count → stateNext (at (left f j x) j) digits r ≡ onward (ends (left f (suc j) x) (suc j)) (at (left f (suc j) x) (suc j)) digits r
   pub early : (j : ℕ) → suc j < count → ends (left f (suc j) x) (suc j) ≡ false
-  pub shown : (j : ℕ) → j < count → shownOf (at (left f j x) j) ≡ shownOf (at x 0)
+  pub shown : (j : ℕ) → j < count → shownOf (at (left f j x) j) digits ≡ shownOf (at x 0) digits
 
 module _ {X : Type 0} (f : Source X) (at : X → ℕ → StageState) (ends : X → ℕ → Bool) (x : X) (count : ℕ) (digits : List ℕ) (r : ℕ)
     (S : Plays f at ends x count digits r) where
@@ -123,5 +123,5 @@ module _ {X : Type 0} (f : Source X) (at : X → ℕ → StageState) (ends : X �
     fits = fits;
     buffer = rw (samples-are count (le-refl count)) (P .buffer);
     state = e ∙ rw (P .rest) (sym (last count some (le-refl count)));
-    same = λ k l. ap shownOf (state-at k l) ∙ S .shown k l;
+    same = λ k l. ap (λ (s : StageState). shownOf s digits) (state-at k l) ∙ S .shown k l;
   }

@@ -64,7 +64,7 @@ module _ (digits : List ℕ) (r : ℕ) (was is : List Float) where
     module _ {X : Type 0} (f : Source X) (at : X → ℕ → StageState) (x : X)
         (sample : (j : ℕ) → j < c → sampleNext (at (left f j x) j) digits r ≡ f .sample (left f j x))
         (next : (j : ℕ) → j < c → stateNext (at (left f j x) j) digits r ≡ onward (leb end (counted (suc j) n)) (at (left f (suc j) x) (suc j)) digits r)
-        (shown : (j : ℕ) → j < c → shownOf (at (left f j x) j) ≡ shownOf (at x 0)) where
+        (shown : (j : ℕ) → j < c → shownOf (at (left f j x) j) digits ≡ shownOf (at x 0) digits) where
       counts : (y : X) → PlayedIs f c x was is y → (s : StageState) → s ≡ at y c
           → WroteIs (at x 0) digits r was is (record { state = s; ended = leb end k; written = c })
       counts y P s e =
@@ -179,7 +179,7 @@ module _ (digits : List ℕ) (r : ℕ) (was is : List Float) where
     same = same;
   }
     where
-      same : (k : ℕ) → k < 1 → shownOf (after k s digits r) ≡ shownOf s
+      same : (k : ℕ) → k < 1 → shownOf (after k s digits r) digits ≡ shownOf s digits
       same zero l = refl
       same (suc k) l = absurd (not-suc-le-zero (le-of-suc-le-suc l))
 
@@ -192,7 +192,7 @@ module _ (digits : List ℕ) (r : ℕ) (was is : List Float) where
     -- 5, 7, 9: a stage that ends with its bits
     bits-wrote : (at : FskChannel → StageState) → ((f : FskChannel) → sampleNext (at f) digits r ≡ channelSample f)
         → ((f : FskChannel) → stateNext (at f) digits r ≡ onward (leb total (nextChannel f payload .done)) (at (nextChannel f payload)) digits r)
-        → ((f g : FskChannel) → shownOf (at f) ≡ shownOf (at g))
+        → ((f g : FskChannel) → shownOf (at f) digits ≡ shownOf (at g) digits)
         → WroteIs (at f) digits r was is (record { state = at (w .fsk); ended = leb total (w .fsk .done); written = w .written })
     unfolding left
     bits-wrote at sample next shown =

@@ -8,7 +8,7 @@ use Rattle.math.specs.Narrow.{narrowed}
 use Rattle.stage.specs.declared.Stage.the-variants as stage
 use Rattle.stage.specs.declared.StageState.{StageState}
 use Rattle.stage.specs.declared.Shown.{Shown}
-use Rattle.stage.specs.Stage.{shownOf}
+use Rattle.stage.specs.Stage.{shownOf, waitingOf}
 use Rattle.stage.specs.Enter.{enterOf}
 use Rattle.stage.specs.Next.{sampleNext, stateNext}
 
@@ -26,10 +26,10 @@ unfoldable pub samples : ℕ → StageState → List ℕ → ℕ → List Float
 samples zero s digits r = []
 samples (suc k) s digits r = narrowed (sampleNext s digits r) ∷ samples k (stateNext s digits r) digits r
 
--- what is shown after a fill of k samples: of the last sample, or, after an empty fill, of the next one
+-- what is shown after a fill of k samples: of the last sample, or, after an empty fill, the stage of the next one. 02, E8: and no key
 abbrev pub shownAfter : ℕ → StageState → List ℕ → ℕ → Shown
-shownAfter zero s digits r = shownOf s
-shownAfter (suc k) s digits r = shownOf (after k s digits r)
+shownAfter zero s digits r = waitingOf s
+shownAfter (suc k) s digits r = shownOf (after k s digits r) digits
 
 -- k samples of no sound
 abbrev pub zeros : ℕ → List Float

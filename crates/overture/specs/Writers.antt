@@ -27,7 +27,7 @@ pub record WroteIs (s : StageState) (digits : List ℕ) (r : ℕ) (was is : List
   pub fits : w .written ≤ length was
   pub buffer : is ≡ samples (w .written) s digits r ++ drop (w .written) was
   pub state : onward (w .ended) (w .state) digits r ≡ after (w .written) s digits r
-  pub same : (k : ℕ) → k < w .written → shownOf (after k s digits r) ≡ shownOf s
+  pub same : (k : ℕ) → k < w .written → shownOf (after k s digits r) digits ≡ shownOf s digits
 
 -- What makes samples, one after another: the sample of what is in hand, and what is in hand after it.
 pub record Source (X : Type 0) : Type 0 where

@@ -450,7 +450,7 @@ fn write_stage(state: StageState, digits: &[u8], rate: u32, out: &mut [f32]) -> 
     }
 }
 
-// The state after a fill, and what is shown of its last sample; of the next one after an empty fill.
+// The state after a fill, and what is shown of its last sample; after an empty fill the stage of the next one, and no key.
 pub struct Filled {
     pub state: StageState,
     pub shown: Shown,
@@ -464,10 +464,10 @@ pub fn read(state: StageState, digits: &[u8], rate: u32, out: &mut [f32]) -> Fil
     ensures { λ w. ⌜ w .shown ≡ shownAfter (length (now (out .entry))) state (now (digits .entry)) rate ⌝ }
 {
     let mut s = state;
-    let mut shown = s.shown();
+    let mut shown = s.waiting();
     let mut at: usize = 0;
     while at < out.len() {
-        shown = s.shown();
+        shown = s.shown(digits);
         let w = write_stage(s, digits, rate, &mut out[at..]);
         let last = w.state;
         at += w.written;

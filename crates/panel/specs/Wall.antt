@@ -6,6 +6,8 @@ use lib.Dec.{leb, ltb, eqb}
 use lib.ListN.{length}
 use Rattle.console.specs.declared.lines.Call.{Call}
 use Rattle.console.specs.declared.lines.Call.the-variants as call
+use Rattle.keys.specs.declared.Lit.{Lit}
+use Rattle.keys.specs.declared.Lit.the-variants as lit
 use Rattle.reply.specs.declared.Reply.{Reply}
 use Rattle.reply.specs.declared.Reply.the-variants as reply
 use Rattle.reply.specs.Codes.{firstOf, secondOf}
@@ -57,7 +59,7 @@ nothingShown s = shownOf s 0 reply.None (second.Sent 0) false
 
 -- the set's answers: creation, forced data and a fill have no reply, and a typed byte alone sends
 abbrev pub madeShown : Made → Shown
-madeShown a = shownOf (a .set) (refusalNumber (a .refusal)) reply.None (second.Sent 0) true
+madeShown a = shownOf (a .set) (refusalNumber (a .refusal)) reply.None second.Made true
 
 abbrev pub typedShown : Typed → Shown
 typedShown a = shownOf (a .set) (refusalNumber (a .refusal)) (a .reply) (second.Sent (a .sent)) true
@@ -69,11 +71,11 @@ abbrev pub forcedShown : Forced → Shown
 forcedShown a = shownOf (a .set) (refusalNumber (a .refusal)) reply.None (second.Sent 0) true
 
 abbrev pub filledShown : ℕ → Filled → Shown
-filledShown length a = shownOf (a .set) (refusalNumber (a .refusal)) reply.None (second.Filled length) true
+filledShown length a = shownOf (a .set) (refusalNumber (a .refusal)) reply.None (second.Filled length (a .key)) true
 
 -- a cue leaves the set
 abbrev pub cuedShown : Set → Cued → Shown
-cuedShown s a = shownOf s (cueRefusalNumber (a .refusal)) reply.None (second.Cued (a .sample)) true
+cuedShown s a = shownOf s (cueRefusalNumber (a .refusal)) reply.None (second.Cued (a .sample) (a .key)) true
 
 -- a string has no codes of its own: those of its n bytes, and S12, fill three places each, where it is not declined
 abbrev pub stringShown : ℕ → TypedAll → Shown
@@ -88,12 +90,16 @@ abbrev pub frameShown : Bool → Set → Unframed → Shown
 frameShown true s a = shownOf s (unframedNumber a) reply.None (second.Frame a) true
 frameShown false s a = nothingShown s
 
+-- 02, E8: the key that the last fill answered leaves the set
+abbrev pub litShown : Set → Shown
+litShown s = shownOf s 0 reply.None second.Lit true
+
 -- a call that asks for more room than there is counts as another line: no line that is read does
 abbrev pub ifRoom : Bool → Set → Shown → Shown
 ifRoom true s shown = shown
 ifRoom false s shown = nothingShown s
 
--- R,rate / T,byte,carrier / W,ns,carrier / F,length / D, and of `tap --ext` C,position / M,byte / S,carrier,outbox,codes / B,room / U; with room for an outbox
+-- R,rate / T,byte,carrier / W,ns,carrier / F,length / D, and of `tap --ext` C,position / M,byte / S,carrier,outbox,codes / B,room / U / K; with room for an outbox
 -- of so many bytes, so many codes and so many samples, with the string that is kept, and with what the reader made of it
 abbrev pub shownAfter : (bytes places samples : ℕ) (kept : List ℕ) (read : Reading) → Set → Call → Shown
 shownAfter bytes places samples kept read s (call.Rate rate) = madeShown (made rate)
@@ -107,6 +113,7 @@ shownAfter bytes places samples kept read s (call.String carrier outbox codes) =
     ifRoom (leb outbox bytes && leb codes places) s (stringShown (length kept) (typedAll s kept carrier outbox codes))
 shownAfter bytes places samples kept read s (call.Bits room) = bitsShown s read
 shownAfter bytes places samples kept read s call.Frame = frameShown (eqb (length kept) 10) s (unframeOf (marksOf kept))
+shownAfter bytes places samples kept read s call.Key = litShown s
 shownAfter bytes places samples kept read s call.Other = nothingShown s
 
 -- the reader that is kept: B has it read the string that is kept, with room for so many bytes; R sets it back; no other line changes it
@@ -121,6 +128,7 @@ readAfter bytes kept p (call.Cue position) = stopped p
 readAfter bytes kept p (call.Kept byte) = stopped p
 readAfter bytes kept p (call.String carrier outbox codes) = stopped p
 readAfter bytes kept p call.Frame = stopped p
+readAfter bytes kept p call.Key = stopped p
 readAfter bytes kept p call.Other = stopped p
 
 -- the string that is kept, with room for so many bytes: M adds a byte, or passes it over; S, B and U forget it, declined or not; no other line
@@ -139,7 +147,19 @@ keptAfter room kept call.ForcedData = kept
 keptAfter room kept (call.Cue position) = kept
 keptAfter room kept (call.Bits n) = []
 keptAfter room kept call.Frame = []
+keptAfter room kept call.Key = kept
 keptAfter room kept call.Other = kept
+
+-- the key that is kept: that which the last fill answered; none after R
+abbrev pub litAfter : Lit → Second → Lit
+litAfter was (second.Filled n key) = key
+litAfter was second.Made = lit.None
+litAfter was (second.Sent sent) = was
+litAfter was (second.Cued sample key) = was
+litAfter was (second.String sent places) = was
+litAfter was (second.Bits taken given) = was
+litAfter was (second.Frame answer) = was
+litAfter was second.Lit = was
 
 -- the line printed
 abbrev pub lineIf : Bool → Report → List ℕ

@@ -32,6 +32,7 @@ pub fn after(call: Call, place: Deframer, string: &[u8], out: &mut [u8]) -> Read
             codes: _,
         } => still(place),
         Call::Frame => still(place),
+        Call::Key => still(place),
         Call::Other => still(place),
     }
 }

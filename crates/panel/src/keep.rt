@@ -1,9 +1,11 @@
-// The string that `tap --ext` keeps: the front of a lent buffer.
+// What `tap --ext` keeps: a string, which is the front of a lent buffer, and the key that the last fill answered.
+use crate::shown::Second;
 use console::lines::Call;
+use keys::Lit;
 ghost use mathlib.Core.Path.{_≡_};
 ghost use Prim.Native.Nat.{min};
 ghost use lib.ListN.{length, take};
-ghost use Rattle.panel.specs.Wall.{keptWith, keptAfter};
+ghost use Rattle.panel.specs.Wall.{keptWith, keptAfter, litAfter};
 
 // How many bytes are kept.
 pub fn held(kept: usize, string: &[u8]) -> usize
@@ -38,7 +40,24 @@ pub fn after(call: Call, kept: usize, string: &mut [u8]) -> usize
         Call::Cue(_) => kept,
         Call::Bits(_) => 0,
         Call::Frame => 0,
+        Call::Key => kept,
         Call::Other => kept,
+    }
+}
+
+// The key that is lit after a line: a fill answers one, and a set made anew has none yet.
+pub fn lit(was: Lit, second: Second) -> Lit
+    ensures { λ r. ⌜ r ≡ litAfter was second ⌝ }
+{
+    match second {
+        Second::Filled { n: _, key } => key,
+        Second::Made => Lit::None,
+        Second::Sent(_) => was,
+        Second::Cued { sample: _, key: _ } => was,
+        Second::String { sent: _, places: _ } => was,
+        Second::Bits { taken: _, given: _ } => was,
+        Second::Frame(_) => was,
+        Second::Lit => was,
     }
 }
 

@@ -4,6 +4,7 @@ use console::lines::Call;
 use console::lines::Parser;
 use console::lines::Pushed;
 use deframe::Deframer;
+use keys::Lit;
 use set::Set;
 use shown::Shown;
 ghost use mathlib.Core.Path.{_≡_};
@@ -11,7 +12,7 @@ ghost use mathlib.Core.Bool.{false};
 ghost use lib.ListN.{length, take};
 ghost use Rattle.deframe.specs.Read.{answerOf};
 ghost use Rattle.text.specs.Text.{pageOf, addOf};
-ghost use Rattle.panel.specs.Wall.{readAfter, shownAfter, keptAfter, lineOf};
+ghost use Rattle.panel.specs.Wall.{readAfter, shownAfter, keptAfter, litAfter, lineOf};
 
 mod bits;
 mod keep;
@@ -32,6 +33,8 @@ struct Panel {
     kept: usize,
     // `tap --ext`: the reader's place
     reader: Deframer,
+    // and the key that the last fill answered
+    lit: Lit,
     // the input has not ended, and nothing has failed
     open: bool,
 }
@@ -58,6 +61,7 @@ fn fresh(extended: bool, bits: bool) -> Panel {
         at: 0,
         kept: 0,
         reader,
+        lit: Lit::None,
         open: true,
     }
 }
@@ -178,11 +182,12 @@ fn cannot_write(bits: bool) {
     os::fail(b"wall: standard output cannot be written");
 }
 
-// What a line leaves: the set after its call, the string and the reader that are kept, and, without `tap`'s second line, 01's line on the page.
+// What a line leaves: the set after its call, the string, the reader and the key that are kept, and, without `tap`'s second line, 01's line on the page.
 fn perform(p: Panel, call: Call, string: &mut [u8], samples: &mut [f32], out: &mut [u8]) -> Panel
     ensures { λ r. ⌜ r .set ≡ shownAfter 1200 1200 (length (now (samples .entry))) (take (p .kept) (now (string .entry))) (answerOf (readAfter 1200 (take (p .kept) (now (string .entry))) (p .reader) call)) (p .set) call .set ⌝ }
     ensures { λ r. ⌜ r .reader ≡ readAfter 1200 (take (p .kept) (now (string .entry))) (p .reader) call .place ⌝ }
     ensures { λ r. ⌜ take (r .kept) (now (string .exit)) ≡ keptAfter (length (now (string .entry))) (take (p .kept) (now (string .entry))) call ⌝ }
+    ensures { λ r. ⌜ r .lit ≡ litAfter (p .lit) (shownAfter 1200 1200 (length (now (samples .entry))) (take (p .kept) (now (string .entry))) (answerOf (readAfter 1200 (take (p .kept) (now (string .entry))) (p .reader) call)) (p .set) call .second) ⌝ }
     ensures { λ r. ⌜ (p .bits ≡ false → pageOf (now (out .exit)) (r .at) ≡ addOf (pageOf (now (out .entry)) (p .at)) (lineOf (shownAfter 1200 1200 (length (now (samples .entry))) (take (p .kept) (now (string .entry))) (answerOf (readAfter 1200 (take (p .kept) (now (string .entry))) (p .reader) call)) (p .set) call))) ⌝ }
 {
     let mut outbox = [0u8; 1200];
@@ -201,15 +206,19 @@ fn perform(p: Panel, call: Call, string: &mut [u8], samples: &mut [f32], out: &m
         samples,
     );
     let kept = keep::after(call, p.kept, string);
+    let was = p.lit;
+    let told = s.second;
+    let lit = keep::lit(was, told);
     let set = s.set;
     let place = reading.place;
     let first = shown::put_line(out, p.at, s);
-    let second = put_second(p.bits, out, first, s, &outbox, &codes, samples);
+    let second = put_second(p.bits, out, first, s, lit, &outbox, &codes, samples);
     Panel {
         set,
         at: second,
         kept,
         reader: place,
+        lit,
         ..p
     }
 }
@@ -219,6 +228,7 @@ fn put_second(
     out: &mut [u8],
     at: usize,
     shown: Shown,
+    lit: Lit,
     outbox: &[u8],
     codes: &[u8],
     samples: &[f32],
@@ -226,7 +236,7 @@ fn put_second(
     ensures { λ r. ⌜ (bits ≡ false → pageOf (now (out .exit)) r ≡ pageOf (now (out .entry)) at) ⌝ }
 {
     if bits & shown.prints {
-        return page::put_bits(out, at, shown, outbox, codes, samples);
+        return page::put_bits(out, at, shown, lit, outbox, codes, samples);
     }
     at
 }

@@ -2,6 +2,7 @@
 use crate::shown::Second;
 use crate::shown::Shown;
 use deframe::Unframed;
+use keys::Lit;
 use set::Set;
 
 // What the call's second line tells.
@@ -9,13 +10,14 @@ pub fn put_bits(
     out: &mut [u8],
     at: usize,
     shown: Shown,
+    lit: Lit,
     outbox: &[u8],
     codes: &[u8],
     samples: &[f32],
 ) -> usize {
     let set = shown.set;
     let second = shown.second;
-    let k = put_second(out, at, set, second, outbox, codes, samples);
+    let k = put_second(out, at, set, second, lit, outbox, codes, samples);
     text::put_byte(out, k, b'\n')
 }
 
@@ -24,17 +26,20 @@ fn put_second(
     at: usize,
     set: Set,
     second: Second,
+    lit: Lit,
     outbox: &[u8],
     codes: &[u8],
     samples: &[f32],
 ) -> usize {
     match second {
         Second::Sent(sent) => put_sent(out, at, set, outbox, sent),
-        Second::Filled(n) => put_filled(out, at, set, outbox, samples, n),
-        Second::Cued(sample) => put_cue(out, at, sample),
+        Second::Made => put_sent(out, at, set, outbox, 0),
+        Second::Filled { n, key: _ } => put_filled(out, at, set, outbox, samples, n),
+        Second::Cued { sample, key } => put_cue(out, at, sample, key),
         Second::Bits { taken, given } => put_bits_read(out, at, outbox, taken, given),
         Second::Frame(answer) => put_frame(out, at, answer),
         Second::String { sent, places } => put_string(out, at, set, outbox, sent, codes, places),
+        Second::Lit => put_lit(out, at, lit),
     }
 }
 
@@ -72,9 +77,27 @@ fn put_string(
     put_front(out, l, codes, places)
 }
 
-fn put_cue(out: &mut [u8], at: usize, sample: u64) -> usize {
-    let k = text::put(out, at, b"# cue=");
-    text::put_decimal(out, k, sample)
+fn put_cue(out: &mut [u8], at: usize, sample: u64, key: Lit) -> usize {
+    let mut k = text::put(out, at, b"# cue=");
+    k = text::put_decimal(out, k, sample);
+    k = text::put(out, k, b" key=");
+    put_key(out, k, key)
+}
+
+fn put_lit(out: &mut [u8], at: usize, lit: Lit) -> usize {
+    let k = text::put(out, at, b"# key=");
+    put_key(out, k, lit)
+}
+
+// Its row and its column.
+fn put_key(out: &mut [u8], at: usize, key: Lit) -> usize {
+    match key {
+        Lit::Key { row, column } => {
+            let k = text::put_decimal(out, at, row as u64);
+            text::put_decimal(out, k, column as u64)
+        }
+        Lit::None => text::put_byte(out, at, b'-'),
+    }
 }
 
 // How many bits were taken, and the bytes given.

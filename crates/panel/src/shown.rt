@@ -3,6 +3,7 @@ use crate::bits;
 use console::lines::Call;
 use deframe::Reading;
 use deframe::Unframed;
+use keys::Lit;
 use reply::Reply;
 use report::Report;
 use set::Set;
@@ -18,22 +19,26 @@ ghost use Rattle.set.specs.String.{typedAll};
 ghost use Rattle.deframe.specs.Read.{marksOf};
 ghost use Rattle.deframe.specs.Unframe.{unframeOf};
 ghost use Rattle.cue.specs.Cue.{cued};
-ghost use Rattle.panel.specs.Wall.{shownOf, nothingShown, madeShown, typedShown, lapsedShown, forcedShown, filledShown, cuedShown, stringShown, bitsShown, frameShown, ifRoom, shownAfter, lineOf};
+ghost use Rattle.panel.specs.Wall.{shownOf, nothingShown, madeShown, typedShown, lapsedShown, forcedShown, filledShown, cuedShown, stringShown, bitsShown, frameShown, litShown, ifRoom, shownAfter, lineOf};
 
 // What `tap`'s second line tells of a call.
 pub enum Second {
     // the ring, and how many bytes of the outbox were filled
     Sent(usize),
-    // the ring, and how many samples were filled
-    Filled(usize),
-    // the cue's sample
-    Cued(u64),
+    // the same of a set that was made
+    Made,
+    // the ring, and how many samples were filled; the key of the last is kept
+    Filled { n: usize, key: Lit },
+    // the cue's sample and its key
+    Cued { sample: u64, key: Lit },
     // the ring, and how many bytes of the outbox and places of the code buffer were filled
     String { sent: usize, places: usize },
     // how many bits were taken, and how many bytes of the outbox filled
     Bits { taken: usize, given: usize },
     // a frame's byte, or none
     Frame(Unframed),
+    // the key that is kept
+    Lit,
 }
 
 pub struct Shown {
@@ -74,6 +79,7 @@ pub fn after(
         } => typed_all(set, string, carrier, n, places, outbox, codes),
         Call::Bits(_) => bits_read(set, reading),
         Call::Frame => framed(set, string),
+        Call::Key => lit(set),
         Call::Other => nothing(set),
     }
 }
@@ -95,7 +101,7 @@ fn made(rate: u32) -> Shown
     let a = Set::new(rate);
     let set = a.set;
     let refusal = a.refusal;
-    show(set, refusal.number(), Reply::None, Second::Sent(0), true)
+    show(set, refusal.number(), Reply::None, Second::Made, true)
 }
 
 // Into the outbox's first `n` bytes.
@@ -158,7 +164,14 @@ fn fill(set: Set, samples: &mut [f32]) -> Shown
     let a = set.process_out(samples);
     let next = a.set;
     let refusal = a.refusal;
-    show(next, refusal.number(), Reply::None, Second::Filled(n), true)
+    let key = a.key;
+    show(
+        next,
+        refusal.number(),
+        Reply::None,
+        Second::Filled { n, key },
+        true,
+    )
 }
 
 // A value that no call writes shows which samples a refused fill leaves alone.
@@ -177,11 +190,12 @@ fn cued(set: Set, position: u8) -> Shown
     let a = cue::cue(set, position as u32);
     let refusal = a.refusal;
     let sample = a.sample;
+    let key = a.key;
     show(
         set,
         refusal.number(),
         Reply::None,
-        Second::Cued(sample),
+        Second::Cued { sample, key },
         true,
     )
 }
@@ -271,6 +285,13 @@ fn unframed(set: Set, answer: Unframed) -> Shown
         Second::Frame(answer),
         true,
     )
+}
+
+// No call is made.
+fn lit(set: Set) -> Shown
+    ensures { λ r. ⌜ r ≡ litShown set ⌝ }
+{
+    show(set, 0, Reply::None, Second::Lit, true)
 }
 
 fn nothing(set: Set) -> Shown

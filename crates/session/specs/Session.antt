@@ -7,6 +7,8 @@ use lib.Dec.{eqb}
 use lib.ListN.{take}
 use lib.Ieee.{Float}
 use Rattle.keys.specs.Keys.{held, dialledOf}
+use Rattle.keys.specs.declared.Lit.{Lit}
+use Rattle.keys.specs.declared.Lit.the-variants as lit
 use Rattle.stage.specs.declared.Shown.{Shown}
 use Rattle.stage.specs.declared.StageState.{StageState}
 use Rattle.stage.specs.declared.StageState.the-variants as at
@@ -91,6 +93,16 @@ writtenIn Connected s b r = zeros b
 
 unfoldable pub written : Session → ℕ → ℕ → List Float
 written s b r = writtenIn (s .state) s b r
+
+-- 02, E8: the "key of its last sample, none in a gap, in another stage or after an empty or declined fill": in Dialling alone
+abbrev pub keyIn : SessionState → Session → ℕ → ℕ → Lit
+keyIn Dialling s b r = shownAfter b (s .stage) (digitsHeld s) r .key
+keyIn Idle s b r = lit.None
+keyIn Answering s b r = lit.None
+keyIn Connected s b r = lit.None
+
+unfoldable pub keyAfter : Session → ℕ → ℕ → Lit
+keyAfter s b r = keyIn (s .state) s b r
 
 -- ring is reported while the next sample is Ringback's, else 0, and in Dialling alone
 abbrev pub ringOf : StageState → ℕ

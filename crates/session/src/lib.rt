@@ -1,5 +1,6 @@
 // One end of a call: where it is in the call, what was dialled, and the overture while it plays.
 use keys::Digits;
+use keys::Lit;
 use stage::Shown;
 use stage::Stage;
 use stage::StageState;
@@ -10,7 +11,7 @@ ghost use Rattle.schedule.specs.Time.{minRate, maxRate};
 ghost use Rattle.schedule.specs.Length.{total};
 ghost use Rattle.schedule.specs.Bounds.{TotalBounds};
 ghost use Rattle.passage.specs.Overture.{HasLength};
-ghost use Rattle.session.specs.Session.{stateNumber, digitsHeld, quietIn, idle, answering, dialling, showing, filledIn, filled, writtenIn, written, ringOf, ringNumber};
+ghost use Rattle.session.specs.Session.{stateNumber, digitsHeld, quietIn, idle, answering, dialling, showing, filledIn, filled, writtenIn, written, keyIn, keyAfter, ringOf, ringNumber};
 ghost use Rattle.session.specs.declared.SessionState.the-variants.{Dialling};
 
 pub enum SessionState {
@@ -28,6 +29,12 @@ pub struct Session {
     // the number of the stage shown; 0 for none
     pub shown: u8,
     pub stage: StageState,
+}
+
+// The session after a fill, and the key of the fill's last sample.
+pub struct Filled {
+    pub session: Session,
+    pub key: Lit,
 }
 
 impl SessionState {
@@ -173,8 +180,9 @@ impl Session {
     }
 
     // A fill in Dialling: the overture's next samples.
-    fn perform(self, rate: u32, out: &mut [f32]) -> Session
-        ensures { λ r. ⌜ r ≡ filledIn Dialling self (length (now (out .entry))) rate ⌝ }
+    fn perform(self, rate: u32, out: &mut [f32]) -> Filled
+        ensures { λ r. ⌜ r .session ≡ filledIn Dialling self (length (now (out .entry))) rate ⌝ }
+        ensures { λ r. ⌜ r .key ≡ keyIn Dialling self (length (now (out .entry))) rate ⌝ }
         ensures { λ _. ⌜ now (out .exit) ≡ writtenIn Dialling self (length (now (out .entry))) rate ⌝ }
     {
         let digits = self.digits;
@@ -185,13 +193,16 @@ impl Session {
         let b = out.len();
         let w = overture::read(stage, &keys[from..len], rate, out);
         let shown = w.shown;
+        let key = shown.key;
         let next = w.state;
-        self.showing(shown, b, next)
+        let session = self.showing(shown, b, next);
+        Filled { session, key }
     }
 
     // A fill. In Connected, which 01 declines before it comes here, it writes zeros.
-    pub fn process_out(self, rate: u32, out: &mut [f32]) -> Session
-        ensures { λ r. ⌜ r ≡ filled self (length (now (out .entry))) rate ⌝ }
+    pub fn process_out(self, rate: u32, out: &mut [f32]) -> Filled
+        ensures { λ r. ⌜ r .session ≡ filled self (length (now (out .entry))) rate ⌝ }
+        ensures { λ r. ⌜ r .key ≡ keyAfter self (length (now (out .entry))) rate ⌝ }
         ensures { λ _. ⌜ now (out .exit) ≡ written self (length (now (out .entry))) rate ⌝ }
     {
         let state = self.state;
@@ -199,15 +210,24 @@ impl Session {
             SessionState::Dialling => self.perform(rate, out),
             SessionState::Idle => {
                 overture::silence(out);
-                self
+                Filled {
+                    session: self,
+                    key: Lit::None,
+                }
             }
             SessionState::Answering => {
                 overture::silence(out);
-                self
+                Filled {
+                    session: self,
+                    key: Lit::None,
+                }
             }
             SessionState::Connected => {
                 overture::silence(out);
-                self
+                Filled {
+                    session: self,
+                    key: Lit::None,
+                }
             }
         }
     }

@@ -10,6 +10,7 @@ use denote.Ref.{RefT, now, at-last}
 use lib.Ieee.{Float}
 use lib.ListN.{length}
 use Rattle.keys.specs.declared.Digits.{Digits}
+use Rattle.keys.specs.declared.Lit.the-variants as lit
 use Rattle.reply.specs.declared.Reply.the-variants.{None}
 use Rattle.at.specs.Processor.{commandMode}
 use Rattle.session.specs.declared.SessionState.{SessionState}
@@ -61,6 +62,7 @@ module _ (s : Set) where
               lent = ap outboxOf (unchanged _ declined _ (now out));
               reply = unchanged _ declined _ None;
               sent = unchanged _ declined _ 0;
+              key = refl;
             };
       })
 
@@ -93,7 +95,7 @@ module _ (s : Set) where
       let told : answer ≡ lapsed s ns carrier = d in
       rw told (record {
         refusal = refl;
-        unchanged = λ declined. record { set = unchanged _ declined _ s; lent = refl; reply = unchanged _ declined _ None; sent = refl };
+        unchanged = λ declined. record { set = unchanged _ declined _ s; lent = refl; reply = unchanged _ declined _ None; sent = refl; key = refl };
       })
 
   pub force-data-mode-answers : (answer : Forced) → force-data-mode.Learnt tt (s, tt) answer (s, tt) → ByCause s (forcedCause s) (forcedEvent answer)
@@ -102,7 +104,7 @@ module _ (s : Set) where
       let told : answer ≡ forced s = d in
       rw told (record {
         refusal = refl;
-        unchanged = λ declined. record { set = unchanged _ declined _ s; lent = refl; reply = refl; sent = refl };
+        unchanged = λ declined. record { set = unchanged _ declined _ s; lent = refl; reply = refl; sent = refl; key = refl };
       })
 
   pub process-out-answers : (κs : Lfts 1) (out : RefT (List Float)) (left : List Float) (answer : Filled)
@@ -115,7 +117,13 @@ module _ (s : Set) where
       rw (told, wrote) (record {
         refusal = refl;
         unchanged = λ declined.
-            record { set = unchanged _ declined _ s; lent = ap bufferOf (unchanged _ declined _ (now out)); reply = refl; sent = refl };
+            record {
+              set = unchanged _ declined _ s;
+              lent = ap bufferOf (unchanged _ declined _ (now out));
+              reply = refl;
+              sent = refl;
+              key = unchanged _ declined _ lit.None;
+            };
       })
 
   pub ring-number-answers : (answer : Rung) → ring-number.Learnt tt (s, tt) answer (s, tt)

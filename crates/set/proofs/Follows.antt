@@ -11,13 +11,15 @@ use lib.Ieee.{Float}
 use lib.ListN.{length}
 use borrow.Author.Tests.{ltb-false, eqb-true, eqb-false}
 use Rattle.keys.specs.Keys.{held, digitsOf}
+use Rattle.keys.specs.declared.Lit.{Lit}
+use Rattle.keys.specs.declared.Lit.the-variants as lit
 use Rattle.keys.proofs.Line.{digits-whole, padded-front}
 use Rattle.stage.specs.declared.Stage.{Stage}
 use Rattle.stage.specs.declared.Shown.{Shown}
 use Rattle.stage.specs.declared.Stage.the-variants as stage
 use Rattle.stage.specs.declared.StageState.{StageState}
 use Rattle.stage.specs.declared.StageState.the-variants as at
-use Rattle.stage.specs.Stage.{stageOf, stageNumber}
+use Rattle.stage.specs.Stage.{stageOf, stageNumber, keyOf}
 use Rattle.runs.specs.Runs.{counted}
 use Rattle.runs.proofs.Counted.{counted-is}
 use Rattle.overture.specs.Iteration.{fresh, after, samples, shownAfter}
@@ -33,7 +35,7 @@ use Rattle.at.proofs.Sound.{sound-typed, sound-lapse, sound-forced}
 use Rattle.session.specs.declared.SessionState.{SessionState}
 use Rattle.session.specs.declared.SessionState.the-variants.{Idle, Dialling, Answering, Connected}
 use Rattle.session.specs.Session as session
-use Rattle.session.specs.Session.{stateNumber, idle, answering, dialling, digitsHeld, connects, shownState, shownNumber, showing, filled, written}
+use Rattle.session.specs.Session.{stateNumber, idle, answering, dialling, digitsHeld, connects, shownState, shownNumber, showing, filled, written, keyAfter}
 use Rattle.set.specs.declared.Set.{Set}
 use Rattle.set.specs.declared.Refusal.{Refusal}
 use Rattle.set.specs.declared.Refusal.the-variants.{Accepted}
@@ -41,7 +43,7 @@ use Rattle.set.specs.Refusals.{refusalNumber, causeOfTyping, causeOfFill
 use Rattle.set.specs.Sound.{sound}
 use Rattle.control.specs.Control.{heardIn, heard, controlled}
 use Rattle.set.specs.Set.{moved, typingCause, byteTaken, typed, lapseCause, lapsed, forcedCause, forced, isUpIn, isUp, fillCause, fill, buffer}
-use Rattle.set.specs.Book.{typing, time, forcing, filling, Book, stageOfSample, fedBy, lapsedBy, applied, shownBy, stateIf, shownIf, afterFill, filledIn, Entry, declined, asks, fills, unlessDeclined, entryOf, numberOf, nextBook}
+use Rattle.set.specs.Book.{typing, time, forcing, filling, Book, stageOfSample, keyOfSample, fedBy, lapsedBy, applied, shownBy, stateIf, shownIf, afterFill, filledIn, Entry, declined, asks, fills, unlessDeclined, entryOf, keyBy, keyOfEntry, numberOf, nextBook}
 use Rattle.set.proofs.Ranges.{ranges, in-ranges}
 use Rattle.set.proofs.Soundness.{after-sound, few-typed, byte-sound, time-sound, forced-sound}
 
@@ -75,10 +77,11 @@ InLimits (asks control line p) = (length line ≤ 76) × (processor.sound p ≡ 
 InLimits (fills b) = b ≤ 65536
 
 -- what a call does that comes to the entry
-pub record Effect (r : ℕ) (k : Book) (entry : Entry) (next : Set) (refusal : Refusal) (left : List Float) : Type 0 where
+pub record Effect (r : ℕ) (k : Book) (entry : Entry) (next : Set) (refusal : Refusal) (lights : Lit) (left : List Float) : Type 0 where
   pub follows : Follows r (nextBook r k entry) next
   pub sound : sound next ≡ true
   pub number : refusalNumber refusal ≡ numberOf entry
+  pub key : lights ≡ keyOfEntry r k entry
   pub limits : InLimits entry
   pub wrote : Wrote r k entry left
 
@@ -117,18 +120,28 @@ module _ (r : ℕ) (k : Book) (s : Set) (f : Follows r k s) where
   same-lapse ns carrier = rw (f .processor, f .state)
 
 -- ---- by the cause: a declined call changes neither book nor set
-by-cause : (r : ℕ) (k : Book) (s : Set) → Invariant r k s → (cause : Refusal) (entry : Entry) (next : Set) (left : List Float)
+by-cause : (r : ℕ) (k : Book) (s : Set) → Invariant r k s → (cause : Refusal) (entry : Entry) (next : Set) (key lights : Lit) (left : List Float)
     → (refusalNumber cause ≡ 6 → ⊥)
-    → (accepted cause ≡ true → Effect r k entry next Accepted left)
-    → Effect r k (unlessDeclined cause entry) (ifAccepted cause next s) cause left
+    → lights ≡ ifAccepted cause key lit.None
+    → (accepted cause ≡ true → Effect r k entry next Accepted key left)
+    → Effect r k (unlessDeclined cause entry) (ifAccepted cause next s) cause lights left
 unfolding accepted
-by-cause r k s inv cause entry next left never taken = go (eqb (refusalNumber cause) 0) refl
+by-cause r k s inv cause entry next key lights left never told taken = go (eqb (refusalNumber cause) 0) refl told
   where
-    go : (t : Bool) → eqb (refusalNumber cause) 0 ≡ t → Effect r k (either t entry (declined cause)) (either t next s) cause left
-    go true e =
+    go : (t : Bool) → eqb (refusalNumber cause) 0 ≡ t → lights ≡ either t key lit.None
+        → Effect r k (either t entry (declined cause)) (either t next s) cause lights left
+    go true e l =
         let q = taken e in
-        record { follows = q .follows; sound = q .sound; number = eqb-true _ 0 e ∙ q .number; limits = q .limits; wrote = q .wrote }
-    go false e = record { follows = inv .follows; sound = inv .sound; number = refl; limits = never; wrote = tt }
+        record { follows = q .follows; sound = q .sound; number = eqb-true _ 0 e ∙ q .number; key = l ∙ q .key; limits = q .limits; wrote = q .wrote }
+    go false e l = record { follows = inv .follows; sound = inv .sound; number = refl; key = l; limits = never; wrote = tt }
+
+-- a call that has no key has none, accepted or declined
+no-key : (cause : Refusal) → lit.None ≡ ifAccepted cause lit.None lit.None
+no-key cause = go (accepted cause)
+  where
+    go : (t : Bool) → lit.None ≡ either t lit.None lit.None
+    go true = refl
+    go false = refl
 
 typing-never-6 : (room : Bool) → refusalNumber (causeOfTyping true room) ≡ 6 → ⊥
 typing-never-6 false e = omega arith
@@ -144,40 +157,44 @@ module _ (r : ℕ) (k : Book) (s : Set) (inv : Invariant r k s) where
   good = rw (inv .follows .processor) at (ranges s (inv .sound) .processor)
 
   pub typing-effect : (byte : ℕ) (carrier : Bool) (n : ℕ)
-      → Effect r k (entryOf k (typing byte carrier n)) (typed s byte carrier n .set) (typed s byte carrier n .refusal) []
+      → Effect r k (entryOf k (typing byte carrier n)) (typed s byte carrier n .set) (typed s byte carrier n .refusal) lit.None []
   unfolding typed typingCause entryOf
   typing-effect byte carrier n =
       let few = few-typed (k .processor) good byte (heardIn (k .state) carrier) n in
       rw (inv .sound)
-      (by-cause r k s inv (causeOfTyping true (leb 4 n)) _ (byteTaken s byte carrier n) []
+      (by-cause r k s inv (causeOfTyping true (leb 4 n)) _ (byteTaken s byte carrier n) lit.None lit.None []
       (typing-never-6 (leb 4 n))
+      (no-key (causeOfTyping true (leb 4 n)))
       (λ _. record {
         follows = rw (same-fed r k s (inv .follows) byte carrier n) (applies r k s (inv .follows) (fedBy k byte carrier n .control) _ _ few);
         sound = byte-sound s (inv .sound) byte carrier n;
         number = refl;
         limits = (few, sound-typed (k .processor) byte (heardIn (k .state) carrier) n good);
+        key = refl;
         wrote = tt;
       }))
 
   pub time-effect : (ns : ℕ) (carrier : Bool)
-      → Effect r k (entryOf k (time ns carrier)) (lapsed s ns carrier .set) (lapsed s ns carrier .refusal) []
+      → Effect r k (entryOf k (time ns carrier)) (lapsed s ns carrier .set) (lapsed s ns carrier .refusal) lit.None []
   unfolding lapsed lapseCause entryOf accepted
   time-effect ns carrier =
       rw (inv .sound) (record {
         follows = rw (same-lapse r k s (inv .follows) ns carrier) (applies r k s (inv .follows) (lapsedBy k ns carrier .control) [] _ zero-le);
         sound = time-sound s (inv .sound) ns carrier;
         number = refl;
+        key = refl;
         limits = (zero-le, sound-lapse (k .processor) ns (heardIn (k .state) carrier) good);
         wrote = tt;
       })
 
-  pub forcing-effect : Effect r k (entryOf k forcing) (forced s .set) (forced s .refusal) []
+  pub forcing-effect : Effect r k (entryOf k forcing) (forced s .set) (forced s .refusal) lit.None []
   unfolding forced forcedCause entryOf accepted controlled
   forcing-effect =
       rw (inv .sound) (record {
         follows = rw (ap forcedData (inv .follows .processor)) (applies r k s (inv .follows) Nothing [] (forcedData (k .processor)) zero-le);
         sound = forced-sound s (inv .sound);
         number = refl;
+        key = refl;
         limits = (zero-le, sound-forced (k .processor) good);
         wrote = tt;
       })
@@ -189,6 +206,11 @@ unfolding stageOfSample
 shown-stage digits r count zero = refl
 shown-stage digits r count (suc b) =
     rw add-suc (ap (λ (x : StageState). stageNumber (stageOf x)) (sym (after-add digits r count b (fresh digits r))))
+
+shown-key : (digits : List ℕ) (r count b : ℕ) → shownAfter b (after count (fresh digits r) digits r) digits r .key ≡ keyBy digits r count b
+unfolding keyOfSample
+shown-key digits r count zero = refl
+shown-key digits r count (suc b) = rw add-suc (ap (λ (x : StageState). keyOf x digits) (sym (after-add digits r count b (fresh digits r))))
 
 at-most-10 : (x : Stage) → stageNumber x ≤ 10
 at-most-10 stage.OffHook = omega arith
@@ -222,6 +244,9 @@ module _ (r : ℕ) (p : AtProcessor) (digits : List ℕ) (count shown : ℕ) (s 
 
     shows : stageNumber (shownAfter b (s .session .stage) (digitsHeld (s .session)) (s .rate) .stage) ≡ shownBy digits r count b
     shows = rw (held-digits, f .stage, f .rate) (shown-stage digits r count b)
+
+    lights : shownAfter b (s .session .stage) (digitsHeld (s .session)) (s .rate) .key ≡ keyBy digits r count b
+    lights = rw (held-digits, f .stage, f .rate) (shown-key digits r count b)
 
     onward : after b (s .session .stage) (digitsHeld (s .session)) (s .rate) ≡ after (count + b) (fresh digits r) digits r
     onward = rw (held-digits, f .stage, f .rate) (sym (after-add digits r count b (fresh digits r)))
@@ -286,35 +311,41 @@ answering-differs e = omega arith
 filling-by : (r : ℕ) (p : AtProcessor) (state : SessionState) (digits : List ℕ) (count shown : ℕ) (s : Set) (b : ℕ) (long : Bool)
     → let book : Book = record { processor = p; state = state; digits = digits; count = count; shown = shown } in
     Invariant r book s → ltb 65536 b ≡ long → accepted (causeOfFill true long (isUpIn state)) ≡ true
-    → Effect r book (fills b) (moved s (s .processor) (filled (s .session) b (s .rate))) Accepted (written (s .session) b (s .rate))
-unfolding accepted stateNumber filled written
+    → Effect r book (fills b) (moved s (s .processor) (filled (s .session) b (s .rate))) Accepted (keyAfter (s .session) b (s .rate))
+    (written (s .session) b (s .rate))
+unfolding accepted stateNumber filled written keyAfter
 filling-by r p state digits count shown s b true inv e allowed = absurd (true≢false (sym allowed))
 filling-by r p Connected digits count shown s b false inv e allowed = absurd (true≢false (sym allowed))
 filling-by r p Idle digits count shown s b false inv e allowed =
     let same : filled (s .session) b (s .rate) ≡ s .session = ap (λ (st : SessionState). session.filledIn st (s .session) b (s .rate)) (inv .follows .state) in
-    rw same (record { follows = inv .follows; sound = inv .sound; number = refl; limits = ltb-false 65536 b e; wrote = λ (d : Idle ≡ Dialling). absurd (idle-differs (ap stateNumber d)) })
+    let dark = ap (λ (st : SessionState). session.keyIn st (s .session) b (s .rate)) (inv .follows .state) in
+    rw same (record { follows = inv .follows; sound = inv .sound; number = refl; key = dark; limits = ltb-false 65536 b e; wrote = λ (d : Idle ≡ Dialling). absurd (idle-differs (ap stateNumber d)) })
 filling-by r p Answering digits count shown s b false inv e allowed =
     let same : filled (s .session) b (s .rate) ≡ s .session = ap (λ (st : SessionState). session.filledIn st (s .session) b (s .rate)) (inv .follows .state) in
-    rw same (record { follows = inv .follows; sound = inv .sound; number = refl; limits = ltb-false 65536 b e; wrote = λ (d : Answering ≡ Dialling). absurd (answering-differs (ap stateNumber d)) })
+    let dark = ap (λ (st : SessionState). session.keyIn st (s .session) b (s .rate)) (inv .follows .state) in
+    rw same (record { follows = inv .follows; sound = inv .sound; number = refl; key = dark; limits = ltb-false 65536 b e; wrote = λ (d : Answering ≡ Dialling). absurd (answering-differs (ap stateNumber d)) })
 filling-by r p Dialling digits count shown s b false inv e allowed =
     let same = ap (λ (st : SessionState). session.filledIn st (s .session) b (s .rate)) (inv .follows .state) in
     let wrote = ap (λ (st : SessionState). session.writtenIn st (s .session) b (s .rate)) (inv .follows .state) in
+    let key = ap (λ (st : SessionState). session.keyIn st (s .session) b (s .rate)) (inv .follows .state) in
     let short = ltb-false 65536 b e in
     rw (same, wrote) (record {
       follows = filled-follows r p digits count shown s inv b short _ _ (shows r p digits count shown s inv b) (onward r p digits count shown s inv b);
       sound = filled-sound r p digits count shown s inv b short _ _ (onward r p digits count shown s inv b);
       number = refl;
+      key = key ∙ lights r p digits count shown s inv b;
       limits = short;
       wrote = λ (d : Dialling ≡ Dialling). writes r p digits count shown s inv b;
     })
 
 pub filling-effect : (r : ℕ) (k : Book) (s : Set) → Invariant r k s → (was : List Float)
-    → Effect r k (entryOf k (filling (length was))) (fill s (length was) .set) (fill s (length was) .refusal) (buffer s was)
+    → Effect r k (entryOf k (filling (length was))) (fill s (length was) .set) (fill s (length was) .refusal) (fill s (length was) .key) (buffer s was)
 unfolding fill buffer fillCause entryOf
 filling-effect r k s inv was =
     let b = length was in
     let up : isUp (s .session) ≡ isUpIn (k .state) = ap isUpIn (inv .follows .state) in
     rw (inv .sound, up)
-    (by-cause r k s inv (causeOfFill true (ltb 65536 b) (isUpIn (k .state))) (fills b) _ _
+    (by-cause r k s inv (causeOfFill true (ltb 65536 b) (isUpIn (k .state))) (fills b) _ _ _ _
     (fill-never-6 (ltb 65536 b) (isUpIn (k .state)))
+    refl
     (λ allowed. rw allowed (filling-by r (k .processor) (k .state) (k .digits) (k .count) (k .shown) s b (ltb 65536 b) inv refl allowed)))

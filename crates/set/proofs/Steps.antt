@@ -1,5 +1,5 @@
 -- What the contract of each call tells, made on a set that follows the book: the set that comes back follows the book's next entry, and is
--- sound; the number is the book's; a declined call changes nothing; and a fill in Dialling writes the overture on. Assumes nothing.
+-- sound; number and key are the book's; a declined call changes nothing; and a fill in Dialling writes the overture on. Assumes nothing.
 use Prim.Native.Nat.{ℕ}
 use mathlib.Core.Path.{_≡_}
 use mathlib.Core.Bool.{Bool}
@@ -25,7 +25,7 @@ use Rattle.set.proofs.Set.force_data_mode.Reads as force-data-mode
 use Rattle.set.proofs.Set.process_out.Reads as process-out
 
 pub record Stepped (r : ℕ) (k : Book) (s : Set) (e : Event) : Type 0 where
-  pub effect : Effect r k (entryOf k (e .call)) (e .set) (e .refusal) (e .left .samples)
+  pub effect : Effect r k (entryOf k (e .call)) (e .set) (e .refusal) (e .key) (e .left .samples)
   pub unchanged : Declined (e .refusal) → Unchanged s e
 
 module _ (r : ℕ) (k : Book) (s : Set) (inv : Invariant r k s) where

@@ -6,8 +6,10 @@ use lib.Dec.{leb, ltb, eqb}
 use lib.Ieee.{Float}
 use lib.ListN.{length}
 use Rattle.keys.specs.Keys.{digitsOf}
+use Rattle.keys.specs.declared.Lit.{Lit}
+use Rattle.keys.specs.declared.Lit.the-variants as lit
 use Rattle.schedule.specs.Length.{total}
-use Rattle.stage.specs.Stage.{stageOf, stageNumber}
+use Rattle.stage.specs.Stage.{stageOf, stageNumber, keyOf}
 use Rattle.overture.specs.Iteration as iteration
 use Rattle.at.specs.declared.AtProcessor.{AtProcessor}
 use Rattle.at.specs.declared.Control.{Control}
@@ -51,6 +53,11 @@ lengthOf digits r = total r (length digits)
 unfoldable pub stageOfSample : List ℕ → ℕ → ℕ → ℕ
 stageOfSample digits r zero = 0
 stageOfSample digits r (suc i) = stageNumber (stageOf (iteration.after i (iteration.fresh digits r) digits r))
+
+-- 02, E8: and the key of its sample i
+unfoldable pub keyOfSample : List ℕ → ℕ → ℕ → Lit
+keyOfSample digits r zero = lit.None
+keyOfSample digits r (suc i) = keyOf (iteration.after i (iteration.fresh digits r) digits r) digits
 
 -- ---- typing, time and forced data step its AT processor
 abbrev pub fedBy : Book → ℕ → Bool → ℕ → Fed
@@ -111,6 +118,22 @@ entryOf k (time ns carrier) = asks (lapsedBy k ns carrier .control) [] (lapsedBy
 entryOf k forcing = asks Nothing [] (forcedData (k .processor))
 entryOf k (filling b) = unlessDeclined (causeOfFill true (ltb 65536 b) (isUpIn (k .state))) (fills b)
 
+-- 02, E8: the key that it answers: of a fill in Dialling that of sample count, which is its last; an empty one has none, and so has any other call
+abbrev pub keyBy : List ℕ → ℕ → ℕ → ℕ → Lit
+keyBy digits r count zero = lit.None
+keyBy digits r count (suc b) = keyOfSample digits r (count + suc b)
+
+abbrev pub keyIn : SessionState → ℕ → Book → ℕ → Lit
+keyIn Dialling r k b = keyBy (k .digits) r (k .count) b
+keyIn Idle r k b = lit.None
+keyIn Answering r k b = lit.None
+keyIn Connected r k b = lit.None
+
+abbrev pub keyOfEntry : ℕ → Book → Entry → Lit
+keyOfEntry r k (declined cause) = lit.None
+keyOfEntry r k (asks control line p) = lit.None
+keyOfEntry r k (fills b) = keyIn (k .state) r k b
+
 -- the number that it is declined with; 0 for none
 abbrev pub numberOf : Entry → ℕ
 numberOf (declined cause) = refusalNumber cause
@@ -125,6 +148,9 @@ nextBook r k (fills b) = filledIn (k .state) r k b
 
 abbrev pub declinedWith : Book → Call → ℕ
 declinedWith k call = numberOf (entryOf k call)
+
+abbrev pub keyAnswered : ℕ → Book → Call → Lit
+keyAnswered r k call = keyOfEntry r k (entryOf k call)
 
 unfoldable pub entered : ℕ → Book → Call → Book
 entered r k call = nextBook r k (entryOf k call)

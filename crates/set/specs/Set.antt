@@ -7,13 +7,14 @@ use lib.Dec.{leb, ltb, eqb}
 use lib.ListN.{length}
 use lib.Ieee.{Float}
 use Rattle.ascii.specs.Front.{put}
+use Rattle.keys.specs.declared.Lit.the-variants as lit
 use Rattle.reply.specs.declared.Reply.the-variants as reply
 use Rattle.at.specs.declared.AtProcessor.{AtProcessor}
 use Rattle.at.specs.Processor.{fresh}
 use Rattle.at.specs.At.{typedByte, sent, afterAtdt, lapse, forcedData}
 use Rattle.session.specs.declared.Session.{Session}
 use Rattle.session.specs.declared.SessionState.{SessionState}
-use Rattle.session.specs.Session.{stateNumber, idle, filled, written, ringNumber}
+use Rattle.session.specs.Session.{stateNumber, idle, filled, written, keyAfter, ringNumber}
 use Rattle.control.specs.Control.{heard, controlled}
 use Rattle.soundness.specs.Sound.{rateOk}
 use Rattle.set.specs.declared.Refusal.{Refusal}
@@ -111,8 +112,15 @@ isUp s = isUpIn (s .state)
 unfoldable pub fillCause : Set → ℕ → Refusal
 fillCause s b = causeOfFill (sound s) (ltb 65536 b) (isUp (s .session))
 
+-- 02, E8: with the key of its last sample
 unfoldable pub fill : Set → ℕ → Filled
-fill s b = record { set = ifAccepted (fillCause s b) (moved s (s .processor) (filled (s .session) b (s .rate))) s; refusal = fillCause s b }
+fill s b =
+    let cause = fillCause s b in
+    record {
+      set = ifAccepted cause (moved s (s .processor) (filled (s .session) b (s .rate))) s;
+      refusal = cause;
+      key = ifAccepted cause (keyAfter (s .session) b (s .rate)) lit.None;
+    }
 
 unfoldable pub buffer : Set → List Float → List Float
 buffer s was = ifAccepted (fillCause s (length was)) (written (s .session) (length was) (s .rate)) was

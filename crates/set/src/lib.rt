@@ -3,6 +3,7 @@
 use at::AtProcessor;
 use command::Line;
 use keys::Digits;
+use keys::Lit;
 use reply::Reply;
 use session::Session;
 use session::SessionState;
@@ -93,6 +94,8 @@ pub struct Forced {
 pub struct Filled {
     pub set: Set,
     pub refusal: Refusal,
+    // that of the last sample
+    pub key: Lit,
 }
 
 pub struct Rung {
@@ -394,16 +397,23 @@ impl Set {
         let session = self.session;
         let refusal = self.fill_cause(out.len());
         if refusal.accepted() {
-            let next = session.process_out(self.rate, out);
+            let filled = session.process_out(self.rate, out);
+            let next = filled.session;
+            let key = filled.key;
             return Filled {
                 set: Set {
                     session: next,
                     ..self
                 },
                 refusal,
+                key,
             };
         }
-        Filled { set: self, refusal }
+        Filled {
+            set: self,
+            refusal,
+            key: Lit::None,
+        }
     }
 
     pub fn ring_number(self) -> Rung

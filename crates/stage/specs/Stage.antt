@@ -1,5 +1,9 @@
--- 01, "Stages": the ten stages, by number, and their order.
+-- 01, "Stages": the ten stages, by number, and their order; and what is shown of a sample.
 use Prim.Native.Nat.{ℕ}
+use mathlib.Core.List.{List}
+use Rattle.keys.specs.declared.Lit.{Lit}
+use Rattle.keys.specs.declared.Lit.the-variants as lit
+use Rattle.tones.specs.Dial.{dialledKey}
 use Rattle.stage.specs.declared.Stage.{Stage}
 use Rattle.stage.specs.declared.Stage.the-variants as stage
 use Rattle.stage.specs.declared.StageState.{StageState}
@@ -44,6 +48,23 @@ stageOf (Cj f z) = stage.Cj
 stageOf (Training f) = stage.Training
 stageOf Connected = stage.Connected
 
+-- 02, E8: the key of a state's next sample, by the pair of digit and tone that the state holds; "none in a gap, in another stage"
+abbrev pub keyOf : StageState → List ℕ → Lit
+keyOf (Dialling i on a b n) digits = dialledKey digits i on
+keyOf (OffHook rng n) digits = lit.None
+keyOf (DialTone a b n) digits = lit.None
+keyOf (Ringback a b n ring) digits = lit.None
+keyOf (Ci f) digits = lit.None
+keyOf (Ansam c e n) digits = lit.None
+keyOf (CmJm f) digits = lit.None
+keyOf (Cj f z) digits = lit.None
+keyOf (Training f) digits = lit.None
+keyOf Connected digits = lit.None
+
 -- what is shown of a state's next sample
-abbrev pub shownOf : StageState → Shown
-shownOf s = record { stage = stageOf s }
+abbrev pub shownOf : StageState → List ℕ → Shown
+shownOf s digits = record { stage = stageOf s; key = keyOf s digits }
+
+-- and where no sample was made: its stage, and no key
+abbrev pub waitingOf : StageState → Shown
+waitingOf s = record { stage = stageOf s; key = lit.None }

@@ -1,9 +1,10 @@
 // The stages of an overture: a stage's state is a choice whose cases carry their oscillators.
 // The samples that follow a state are defined in specs/Next; the writers of `overture` make them.
 use fsk::FskChannel;
+use keys::Lit;
 use nco::Nco;
 ghost use mathlib.Core.Path.{_≡_};
-ghost use Rattle.stage.specs.Stage.{stageNumber, nextStage, stageOf, shownOf};
+ghost use Rattle.stage.specs.Stage.{stageNumber, nextStage, stageOf, keyOf, shownOf, waitingOf};
 ghost use Rattle.stage.specs.Enter.{enterOf};
 
 const DIAL_TONE_A: f64 = 350.0;
@@ -86,6 +87,7 @@ pub enum StageState {
 // What is shown of a sample.
 pub struct Shown {
     pub stage: Stage,
+    pub key: Lit,
 }
 
 impl Stage {
@@ -162,12 +164,60 @@ impl StageState {
         }
     }
 
+    // The key of the next sample. Only a digit's tone has one.
+    fn key(self, digits: &[u8]) -> Lit
+        ensures { λ r. ⌜ r ≡ keyOf self (now (digits .entry)) ⌝ }
+    {
+        match self {
+            StageState::Dialling {
+                digit_i,
+                in_tone,
+                a: _,
+                b: _,
+                n: _,
+            } => tones::dialled_key(digits, digit_i, in_tone),
+            StageState::OffHook { rng: _, n: _ } => Lit::None,
+            StageState::DialTone { a: _, b: _, n: _ } => Lit::None,
+            StageState::Ringback {
+                a: _,
+                b: _,
+                n: _,
+                ring: _,
+            } => Lit::None,
+            StageState::Ci(_) => Lit::None,
+            StageState::Ansam {
+                carrier: _,
+                env: _,
+                n: _,
+            } => Lit::None,
+            StageState::CmJm(_) => Lit::None,
+            StageState::Cj {
+                fsk: _,
+                silence_n: _,
+            } => Lit::None,
+            StageState::Training(_) => Lit::None,
+            StageState::Connected => Lit::None,
+        }
+    }
+
     // What is shown of the next sample.
-    pub fn shown(self) -> Shown
-        ensures { λ r. ⌜ r ≡ shownOf self ⌝ }
+    pub fn shown(self, digits: &[u8]) -> Shown
+        ensures { λ r. ⌜ r ≡ shownOf self (now (digits .entry)) ⌝ }
     {
         let stage = self.stage();
-        Shown { stage }
+        let key = self.key(digits);
+        Shown { stage, key }
+    }
+
+    // What is shown before it, where no sample was made: its stage, and no key.
+    pub fn waiting(self) -> Shown
+        ensures { λ r. ⌜ r ≡ waitingOf self ⌝ }
+    {
+        let stage = self.stage();
+        Shown {
+            stage,
+            key: Lit::None,
+        }
     }
 }
 

@@ -9,6 +9,8 @@ use Rattle.math.specs.Float.{zero, one, ofNat}
 use Rattle.nco.specs.Nco.{freshNco}
 use Rattle.keys.specs.declared.Tones.{Tones}
 use Rattle.keys.specs.declared.Tones.the-variants.{Key, NoKey}
+use Rattle.keys.specs.declared.Lit.{Lit}
+use Rattle.keys.specs.declared.Lit.the-variants as lit
 use Rattle.keys.specs.Keys.{tonesOf}
 use Rattle.schedule.specs.Time.{timeAt}
 use Rattle.schedule.specs.Dialling.{digitAt, inTone}
@@ -18,14 +20,19 @@ use Rattle.tones.specs.declared.Dial.{Dial}
 use Rattle.tones.specs.declared.Dialled.{Dialled}
 use Rattle.tones.specs.Mixed.{gatedOf}
 
--- a key's two frequencies; 1 Hz where there is no key
+-- a key's two frequencies; 1 Hz where there is no key. 02, E8: and the key
 abbrev pub tonesFor : Tones → KeyTones
-tonesFor (Key low high) = record { low = low; high = high }
-tonesFor NoKey = record { low = one; high = one }
+tonesFor (Key low high row column) = record { low = low; high = high; key = lit.Key row column }
+tonesFor NoKey = record { low = one; high = one; key = lit.None }
 
 -- those of the digit at position i
 unfoldable pub digitTones : List ℕ → ℕ → KeyTones
 digitTones digits i = tonesFor (tonesOf (getD digits i 0))
+
+-- 02, E8: the key of a sample is that of the digit in whose tone it is, "none in a gap"
+unfoldable pub dialledKey : List ℕ → ℕ → Bool → Lit
+dialledKey digits i true = digitTones digits i .key
+dialledKey digits i false = lit.None
 
 -- i >= d, or the same pair of digit and tone as before
 unfoldable pub pairStays : ℕ → ℕ → Bool → ℕ → Bool → Bool

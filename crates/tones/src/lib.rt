@@ -1,12 +1,13 @@
 // Samples, one at a time, of whatever stage: the click's noise, two oscillators mixed or at rest,
 // ANSam, and the digits that are dialled.
+use keys::Lit;
 use keys::Tones;
 use nco::Nco;
 ghost use mathlib.Core.Path.{_≡_};
 ghost use mathlib.Core.Bool.{true};
 ghost use Rattle.tones.specs.Samples.{shifted, clickSample, mixed, ansamSample};
 ghost use Rattle.tones.specs.Mixed.{gatedOf, answerOf};
-ghost use Rattle.tones.specs.Dial.{tonesFor, digitTones, pairStays, takenOver, dialStepOf};
+ghost use Rattle.tones.specs.Dial.{tonesFor, digitTones, dialledKey, pairStays, takenOver, dialStepOf};
 
 const ANSAM_AM_DEPTH: f64 = 0.3;
 
@@ -25,9 +26,11 @@ pub struct Mixed {
     pub b: Nco,
 }
 
+// A digit's two frequencies, and its key.
 pub struct KeyTones {
     pub low: f64,
     pub high: f64,
+    pub key: Lit,
 }
 
 // What is dialled: a digit's position, its tone or the gap after it, and its oscillators.
@@ -104,15 +107,25 @@ fn key_tones(t: Tones) -> KeyTones
     ensures { λ r. ⌜ r ≡ tonesFor t ⌝ }
 {
     match t {
-        Tones::Key { low, high } => KeyTones { low, high },
+        Tones::Key {
+            low,
+            high,
+            row,
+            column,
+        } => KeyTones {
+            low,
+            high,
+            key: Lit::Key { row, column },
+        },
         Tones::NoKey => KeyTones {
             low: 1.0,
             high: 1.0,
+            key: Lit::None,
         },
     }
 }
 
-// The frequencies of the digit at a position; 1 Hz where there is none.
+// The frequencies and the key of the digit at a position; 1 Hz and no key where there is none.
 pub fn digit_tones(digits: &[u8], i: u64) -> KeyTones
     ensures { λ r. ⌜ r ≡ digitTones (now (digits .entry)) i ⌝ }
 {
@@ -121,6 +134,17 @@ pub fn digit_tones(digits: &[u8], i: u64) -> KeyTones
         return key_tones(keys::dtmf_freqs(digits[at]));
     }
     key_tones(keys::dtmf_freqs(0))
+}
+
+// The key of a sample: the digit's in its tone, none in the gap after it.
+pub fn dialled_key(digits: &[u8], i: u64, tone: bool) -> Lit
+    ensures { λ r. ⌜ r ≡ dialledKey (now (digits .entry)) i tone ⌝ }
+{
+    if tone {
+        let tones = digit_tones(digits, i);
+        return tones.key;
+    }
+    Lit::None
 }
 
 // Whether the pair of digit and tone stays: at the end, or where it did not change.

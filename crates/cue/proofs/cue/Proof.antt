@@ -2,7 +2,7 @@
 use mathlib.Core.Path.{_≡_, sym}
 use lib.ListN.{length}
 use Rattle.cue.specs.Cue.{cueRefusalNumber, cueCause, cued}
-use Rattle.cue.proofs.Cueing.{in-limits, accepted-cued, declined-cued, first-of-digit, first-of-digit-is}
+use Rattle.cue.proofs.Cueing.{in-limits, few-digits, accepted-cued, declined-cued, first-of-digit, first-of-digit-is}
 use borrow.Author.Needs.{needs}
 use Rattle.cue.proofs.cue.Statement.{statement}
 use Rattle.cue.proofs.cue.Tie as tie
@@ -18,15 +18,20 @@ cue-sample-requires c κs =
     let a = c .before .before .before .args in
     in-limits (a .set) (a .position) (rw (← c .before .before .cue-cause .ensures, ← c .before .number .ensures) (c .if1 .taken))
 
+cue-key-requires : tie.Need-cue-key-requires
+cue-key-requires c κs =
+    let a = c .before .before .before .before .args in
+    few-digits (a .set) (a .position) (rw (← c .before .before .before .cue-cause .ensures, ← c .before .before .number .ensures) (c .before .if1 .taken))
+
 returns : tie.Need-returns
 unfolding cued
 returns c =
-    let a = c .before .before .before .before .args in
-    let cause = c .before .before .before .cue-cause .ensures in
-    let zero : cueRefusalNumber (cueCause (a .set) (a .position)) ≡ 0 = rw (← cause, ← c .before .before .number .ensures) (c .before .if1 .taken) in
+    let a = c .before .before .before .before .before .args in
+    let cause = c .before .before .before .before .cue-cause .ensures in
+    let zero : cueRefusalNumber (cueCause (a .set) (a .position)) ≡ 0 = rw (← cause, ← c .before .before .before .number .ensures) (c .before .before .if1 .taken) in
     let keys : length (a .set .session .digits .keys) ≡ 76 = search needs in (
-      rw (cause, c .cue-sample .ensures, accepted-cued _ _ zero, first-of-digit-is (a .set) (a .position) zero keys),
-      λ _. rw (c .cue-sample .ensures) (first-of-digit (a .set) (a .position) zero keys),
+      rw (cause, c .before .cue-sample .ensures, c .cue-key .ensures, accepted-cued _ _ _ zero, first-of-digit-is (a .set) (a .position) zero keys),
+      λ _. rw (c .before .cue-sample .ensures) (first-of-digit (a .set) (a .position) zero keys),
     )
 
 returns-2 : tie.Need-returns-2
@@ -35,8 +40,8 @@ returns-2 c =
     let a = c .before .before .before .args in
     let cause = c .before .before .cue-cause .ensures in
     let declined : cueRefusalNumber (cueCause (a .set) (a .position)) ≡ 0 → ⊥ = λ zero. c .if1 .left (rw (c .before .number .ensures, cause) zero) in
-    (rw cause (sym (declined-cued _ _ declined)), λ zero. absurd (declined (rw (← cause) zero)))
+    (rw cause (sym (declined-cued _ _ _ declined)), λ zero. absurd (declined (rw (← cause) zero)))
 
 pub cue-spec : {M : Type 1} → statement M
 cue-spec =
-    tie.close (tie.spec cue-cause-requires number-requires cue-sample-requires returns returns-2)
+    tie.close (tie.spec cue-cause-requires number-requires cue-sample-requires cue-key-requires returns returns-2)

@@ -12,11 +12,14 @@ cue-requires c κs = search needs
 number-requires : tie.Need-number-requires
 number-requires c κs = search needs
 
+key-numbers-requires : tie.Need-key-numbers-requires
+key-numbers-requires c κs = search needs
+
 returns : tie.Need-returns
 returns c =
-    let s = c .before .before .load .ensures .0 in
-    let a = c .before .cue .ensures .0 in
-    record { refusal = rw (c .number .ensures, a, s); sample = rw (a, s) }
+    let s = c .before .before .before .load .ensures .0 in
+    let a = c .before .before .cue .ensures .0 in
+    record { refusal = rw (c .number .ensures, a, s); sample = rw (a, s); key = rw (c .before .key-numbers .ensures, a, s) }
 
 pub gibbonplate-cue-in-spec : {M : Type 1} → statement M
-gibbonplate-cue-in-spec = tie.close (tie.spec load-requires cue-requires number-requires returns)
+gibbonplate-cue-in-spec = tie.close (tie.spec load-requires cue-requires key-numbers-requires number-requires returns)

@@ -13,14 +13,14 @@ Inv-loop digits rate out₀ s₀ shown₀ at₀ out s shown at = Filling digits 
 abbrev μ-loop : tie.MeasureT-loop
 μ-loop digits rate out₀ s₀ shown₀ at₀ out s shown at = length out₀ - at
 
-shown-requires : tie.Need-shown-requires Inv-loop μ-loop
-shown-requires c κs = search needs
+waiting-requires : tie.Need-waiting-requires Inv-loop μ-loop
+waiting-requires c κs = search needs
 
 loop-holds : tie.Need-loop-holds Inv-loop μ-loop
-loop-holds c = fill-start _ _ _ _ _ (c .shown .ensures)
+loop-holds c = fill-start _ _ _ _ _ (c .waiting .ensures)
 
-shown-requires-2 : tie.Need-shown-requires-2 Inv-loop μ-loop
-shown-requires-2 c κs = search needs
+shown-requires : tie.Need-shown-requires Inv-loop μ-loop
+shown-requires c κs = search needs
 
 mul-write-stage : tie.Need-mul-write-stage Inv-loop μ-loop
 mul-write-stage c = search needs
@@ -53,7 +53,7 @@ loop-less c =
 loop-again : tie.Need-loop-again Inv-loop μ-loop
 loop-again c =
     let w = c .before .before .before .before in
-    fill-again _ _ _ _ _ _ _ _ (w .before .before .before .before .loop .inv) _ _ (w .write-stage .ensures) _ (w .before .before .shown2 .ensures) _ (c .next-state .ensures)
+    fill-again _ _ _ _ _ _ _ _ (w .before .before .before .before .loop .inv) _ _ (w .write-stage .ensures) _ (w .before .before .shown .ensures) _ (c .next-state .ensures)
 
 same-length : tie.Need-same-length Inv-loop μ-loop
 same-length c = fill-long _ _ _ _ _ _ _ _ (c .before .loop .inv)
@@ -70,9 +70,9 @@ read-spec =
     (tie.spec
     Inv-loop
     μ-loop
-    shown-requires
+    waiting-requires
     loop-holds
-    shown-requires-2
+    shown-requires
     mul-write-stage
     sub-write-stage
     part-write-stage-start

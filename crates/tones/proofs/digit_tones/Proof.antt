@@ -17,7 +17,7 @@ key-tones-requires c κs = search needs
 
 returns : tie.Need-returns
 unfolding digitTones
-returns c = rw (c .key-tones .ensures, c .before .dtmf-freqs .ensures)
+returns c = rw (c .key-tones .ensures, c .before .dtmf-freqs .ensures .0)
 
 dtmf-freqs-requires-2 : tie.Need-dtmf-freqs-requires-2
 dtmf-freqs-requires-2 c κs = search needs
@@ -27,7 +27,7 @@ key-tones-requires-2 c κs = search needs
 
 returns-2 : tie.Need-returns-2
 unfolding digitTones
-returns-2 c = rw (c .key-tones2 .ensures, c .before .dtmf-freqs2 .ensures, List·getD-eq-default {A = ℕ} _ 0 (c .before .before .if1 .left))
+returns-2 c = rw (c .key-tones2 .ensures, c .before .dtmf-freqs2 .ensures .0, List·getD-eq-default {A = ℕ} _ 0 (c .before .before .if1 .left))
 
 pub digit-tones-spec : {M : Type 1} → statement M
 digit-tones-spec =

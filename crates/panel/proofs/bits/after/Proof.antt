@@ -75,6 +75,12 @@ enum-told-10 c = search needs
 still-requires-10 : tie.Need-still-requires-10
 still-requires-10 c κs = search needs
 
+enum-told-11 : tie.Need-enum-told-11
+enum-told-11 c = search needs
+
+still-requires-11 : tie.Need-still-requires-11
+still-requires-11 c κs = search needs
+
 same-length : tie.Need-same-length
 same-length c = search needs
 
@@ -111,6 +117,9 @@ returns-10 c = rw (c .before .enum-told9 .given .1) (c .still9 .ensures)
 returns-11 : tie.Need-returns-11
 returns-11 c = rw (c .before .enum-told10 .given .1) (c .still10 .ensures)
 
+returns-12 : tie.Need-returns-12
+returns-12 c = rw (c .before .enum-told11 .given .1) (c .still11 .ensures)
+
 pub after-spec : {M : Type 1} → statement M
 after-spec =
     tie.close
@@ -138,6 +147,8 @@ after-spec =
     still-requires-9
     enum-told-10
     still-requires-10
+    enum-told-11
+    still-requires-11
     same-length
     returns
     returns-2
@@ -149,4 +160,5 @@ after-spec =
     returns-8
     returns-9
     returns-10
-    returns-11)
+    returns-11
+    returns-12)

@@ -39,6 +39,9 @@ enum-told-9 c = search needs
 enum-told-10 : tie.Need-enum-told-10
 enum-told-10 c = search needs
 
+enum-told-11 : tie.Need-enum-told-11
+enum-told-11 c = search needs
+
 same-length : tie.Need-same-length
 same-length c = search needs
 
@@ -75,6 +78,9 @@ returns-10 c = rw (c .enum-told9 .given .1)
 returns-11 : tie.Need-returns-11
 returns-11 c = rw (c .enum-told10 .given .1)
 
+returns-12 : tie.Need-returns-12
+returns-12 c = rw (c .enum-told11 .given .1)
+
 pub after-spec : {M : Type 1} → statement M
 after-spec =
     tie.close
@@ -91,6 +97,7 @@ after-spec =
     enum-told-8
     enum-told-9
     enum-told-10
+    enum-told-11
     same-length
     returns
     returns-2
@@ -102,4 +109,5 @@ after-spec =
     returns-8
     returns-9
     returns-10
-    returns-11)
+    returns-11
+    returns-12)

@@ -66,6 +66,12 @@ framed-requires c κs = search needs
 enum-told-5 : tie.Need-enum-told-5
 enum-told-5 c = search needs
 
+lit-requires : tie.Need-lit-requires
+lit-requires c κs = search needs
+
+enum-told-6 : tie.Need-enum-told-6
+enum-told-6 c = search needs
+
 nothing-requires-2 : tie.Need-nothing-requires-2
 nothing-requires-2 c κs = search needs
 
@@ -112,7 +118,10 @@ returns-10 : tie.Need-returns-10
 returns-10 c = rw (c .before .enum-told4 .given .1) (c .framed .ensures)
 
 returns-11 : tie.Need-returns-11
-returns-11 c = rw (c .before .enum-told5 .given .1) (c .nothing2 .ensures)
+returns-11 c = rw (c .before .enum-told5 .given .1) (c .lit .ensures)
+
+returns-12 : tie.Need-returns-12
+returns-12 c = rw (c .before .enum-told6 .given .1) (c .nothing2 .ensures)
 
 pub after-spec : {M : Type 1} → statement M
 after-spec =
@@ -139,6 +148,8 @@ after-spec =
     enum-told-4
     framed-requires
     enum-told-5
+    lit-requires
+    enum-told-6
     nothing-requires-2
     returns
     same-length
@@ -154,4 +165,5 @@ after-spec =
     returns-8
     returns-9
     returns-10
-    returns-11)
+    returns-11
+    returns-12)

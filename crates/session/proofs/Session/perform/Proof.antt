@@ -1,4 +1,4 @@
--- `Session::perform` meets its contract, by what `read` ensures of the buffer, the state and the stage shown. Assumes nothing.
+-- `Session::perform` meets its contract, by what `read` ensures of the buffer, the state and what is shown. Assumes nothing.
 use native.Mathlib.Nat.{sub-zero}
 use mathlib.Core.Path.{_≡_}
 use lib.ListN.{length}
@@ -34,7 +34,7 @@ returns : tie.Need-returns
 returns c =
     let held = c .before .before .before .before .before .before .before .before .held-count .ensures .1 in
     let r = c .before .before .before .before .read .ensures in
-    (rw (c .showing .ensures, r .1 .1, r .1 .0, sub-zero, held), rw (sub-zero, held) at (r .0))
+    (rw (c .showing .ensures, r .1 .1, r .1 .0, sub-zero, held), (rw (r .1 .1, sub-zero, held), rw (sub-zero, held) at (r .0)))
 
 pub perform-spec : {M : Type 1} → statement M
 perform-spec =

@@ -1,5 +1,5 @@
 -- `Session::process_out` meets its contract: the overture in Dialling, zeros else. Assumes nothing.
-use Rattle.session.specs.Session.{filled, written}
+use Rattle.session.specs.Session.{filled, written, keyAfter}
 use borrow.Author.Needs.{needs}
 use Rattle.session.proofs.Session.process_out.Statement.{statement}
 use Rattle.session.proofs.Session.process_out.Tie as tie
@@ -32,29 +32,32 @@ same-length : tie.Need-same-length
 same-length c = search needs
 
 returns : tie.Need-returns
-unfolding filled written
-returns c = let t = c .before .before .before .before .enum-told .given .1 in (rw t (c .before .before .perform .ensures .0), rw t (c .before .before .perform .ensures .1))
+unfolding filled written keyAfter
+returns c =
+    let t = c .before .before .before .before .enum-told .given .1 in
+    let p = c .before .before .perform .ensures in
+    (rw t (p .0), (rw t (p .1 .0), rw t (p .1 .1)))
 
 same-length-2 : tie.Need-same-length-2
 same-length-2 c = search needs
 
 returns-2 : tie.Need-returns-2
-unfolding filled written
-returns-2 c = let t = c .before .before .before .before .enum-told2 .given .1 in (rw t, rw (t, c .before .before .silence .ensures))
+unfolding filled written keyAfter
+returns-2 c = let t = c .before .before .before .before .enum-told2 .given .1 in (rw t, (rw t, rw (t, c .before .before .silence .ensures)))
 
 same-length-3 : tie.Need-same-length-3
 same-length-3 c = search needs
 
 returns-3 : tie.Need-returns-3
-unfolding filled written
-returns-3 c = let t = c .before .before .before .before .enum-told3 .given .1 in (rw t, rw (t, c .before .before .silence2 .ensures))
+unfolding filled written keyAfter
+returns-3 c = let t = c .before .before .before .before .enum-told3 .given .1 in (rw t, (rw t, rw (t, c .before .before .silence2 .ensures)))
 
 same-length-4 : tie.Need-same-length-4
 same-length-4 c = search needs
 
 returns-4 : tie.Need-returns-4
-unfolding filled written
-returns-4 c = let t = c .before .before .before .before .enum-told4 .given .1 in (rw t, rw (t, c .before .before .silence3 .ensures))
+unfolding filled written keyAfter
+returns-4 c = let t = c .before .before .before .before .enum-told4 .given .1 in (rw t, (rw t, rw (t, c .before .before .silence3 .ensures)))
 
 pub process-out-spec : {M : Type 1} → statement M
 process-out-spec =

@@ -19,11 +19,11 @@ same-length c = search needs
 returns : tie.Need-returns
 unfolding fill buffer
 returns c =
-    let u = c .before .before .before .before .before .before .before .fill-cause .ensures in
-    let v = c .before .before .before .before .before .before .accepted .ensures in
-    let t = c .before .before .before .before .before .if1 .taken in
-    let p = c .before .before .before .process-out .ensures in
-    (rw (← u, ← v, t, p .0), rw (← u, ← v, t) (p .1))
+    let u = c .before .before .before .before .before .before .before .before .fill-cause .ensures in
+    let v = c .before .before .before .before .before .before .before .accepted .ensures in
+    let t = c .before .before .before .before .before .before .if1 .taken in
+    let p = c .before .before .before .before .process-out .ensures in
+    (rw (← u, ← v, t, p .0, p .1 .0), rw (← u, ← v, t) (p .1 .1))
 
 returns-2 : tie.Need-returns-2
 unfolding fill buffer
