@@ -11,3 +11,4 @@ pub mod DecaySize
 pub mod Level
 pub mod Overture
 pub mod Fill
+pub mod Reading
