@@ -74,12 +74,12 @@ same-pattern x y (suc e) t H v w =
     pattern binary64 x false (2 ^ 52 + t) e v few (inr (significand-lo t)) ∙ sym (pattern binary64 y false (2 ^ 52 + t) e w few (inr (significand-lo t)))
 
 -- a float has one value
-record One (x : Float) (s t : Bool) (a c b d : ℕ) : Type 0 where
-  number : T (finite x)
-  sign : s ≡ t
-  value : b * c ≡ a * d
+pub record One (x : Float) (s t : Bool) (a c b d : ℕ) : Type 0 where
+  pub number : T (finite x)
+  pub sign : s ≡ t
+  pub value : b * c ≡ a * d
 
-single-value : (x : Float) (s t : Bool) (a c b d : ℕ) → HasValue x s a c → HasValue x t b d → One x s t a c b d
+pub single-value : (x : Float) (s t : Bool) (a c b d : ℕ) → HasValue x s a c → HasValue x t b d → One x s t a c b d
 single-value nan s t a c b d v w = absurd v
 single-value (inf z) s t a c b d v w = absurd v
 single-value (fin z m e) s t a c b d v w =

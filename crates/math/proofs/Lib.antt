@@ -5,9 +5,11 @@ pub mod Values
 pub mod Pattern
 pub mod Narrowing
 pub mod Whole
+pub mod Rounding
 pub mod Bounds
 pub mod Wrapping
 pub mod Equal
 pub mod Units
 pub mod Constants
 pub mod FullWave
+pub mod Size

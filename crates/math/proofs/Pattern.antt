@@ -158,8 +158,9 @@ pub record Fields (x : Float) : Type 0 where
   pub digits : t < 2 ^ 52
   pub value : HasValue x sign (magnitude e t) (2 ^ 1074)
 
-pub fields-of : (x : Float) → T (fits binary64 x) → T (finite x) → Fields x
-fields-of x h f =
+-- those fields are in its bits
+pub bits-value : (x : Float) → T (fits binary64 x) → T (finite x) → HasValue x (leb (2 ^ 63) (toBits binary64 x)) (magnitude (toBits binary64 x % 2 ^ 63 / 2 ^ 52) (toBits binary64 x % 2 ^ 52)) (2 ^ 1074)
+bits-value x h f =
     let b = toBits binary64 x in
     let s = leb (2 ^ 63) b in
     let e = b % 2 ^ 63 / 2 ^ 52 in
@@ -171,7 +172,16 @@ fields-of x h f =
       | inl q ↦ absurd (ones-not-finite s t (subst (λ (z : ℕ). T (finite (ofFields binary64 s z t))) q (subst (λ (z : Float). T (finite z)) (sym is) f)))
       | inr l ↦ l
     ] in
-    record { sign = s; e = e; t = t; digits = mod-lt b (pow-pos 52); value = subst (λ (z : Float). HasValue z s (magnitude e t) (2 ^ 1074)) is (fields-value s e t lt47) }
+    subst (λ (z : Float). HasValue z s (magnitude e t) (2 ^ 1074)) is (fields-value s e t lt47)
+
+pub fields-of : (x : Float) → T (fits binary64 x) → T (finite x) → Fields x
+fields-of x h f = record {
+  sign = leb (2 ^ 63) (toBits binary64 x);
+  e = toBits binary64 x % 2 ^ 63 / 2 ^ 52;
+  t = toBits binary64 x % 2 ^ 52;
+  digits = mod-lt (toBits binary64 x) (pow-pos 52);
+  value = bits-value x h f;
+}
 
 unit-exponent : (e : ℤ) → up e * down e ≡ 1 → e ≡ pos 0
 unit-exponent (pos zero) h = refl

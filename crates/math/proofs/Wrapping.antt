@@ -36,7 +36,7 @@ abbrev pub Phase : ℕ → Float → Type 0
 Phase k x = (x ≡ negative-zero) ⊎ AtMost k x
 
 -- not negative, so of a negative sign only -0.0
-minus-zero : (m : ℕ) (e : ℤ) → T (le float.zero (fin true m e)) → m ≡ 0
+pub minus-zero : (m : ℕ) (e : ℤ) → T (le float.zero (fin true m e)) → m ≡ 0
 unfolding le ofBits
 minus-zero m e h = no-up (sym (eqb→eq (0 * 1 * down e) (m * up e * 1) (and-l (eqb (0 * 1 * down e) (m * up e * 1)) (eqb (0 * 1 * down e) 0) h)) ∙ zero-mul (down e))
   where
@@ -72,11 +72,11 @@ minus-plus (fin false n d) a v =
     pick zero C = refl
     pick (suc b) C = rw (lt-ltb _ _ (zero-lt-suc b)) (ap (λ (z : ℕ). round binary64 false z C) (sub-zero (suc b)))
 
-nan-out : (period : Float) → T (within period nan) → ⊥
+pub nan-out : (period : Float) → T (within period nan) → ⊥
 unfolding le lt ofBits
 nan-out period k = k
 
-inf-out : (period : Float) (P c : ℕ) → HasValue period false P c → (s : Bool) → T (within period (inf s)) → ⊥
+pub inf-out : (period : Float) (P c : ℕ) → HasValue period false P c → (s : Bool) → T (within period (inf s)) → ⊥
 unfolding le lt ofBits
 inf-out period P c v true k = k
 inf-out nan P c v false k = k
