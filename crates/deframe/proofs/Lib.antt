@@ -4,3 +4,4 @@ pub mod Parts
 pub mod Resumed
 pub mod Joined
 pub mod Taking
+pub mod ReadBack

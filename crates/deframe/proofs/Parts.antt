@@ -1,6 +1,6 @@
 -- The reader over a list that is cut in two: what is taken of the first part is taken of the whole, and a part that is taken whole is read on from its
 -- place (`read-on`). By induction on the list, a bit at a time. Assumes nothing.
-use Prim.Native.Nat.{ℕ, zero, suc, _+_, _-_, _≤_, _<_}
+use Prim.Native.Nat.{ℕ, zero, suc, _+_, _-_, _≤_}
 use native.Mathlib.Nat.{not-suc-le-zero, le-of-suc-le-suc}
 use native.Mathlib.Omega.{arith}
 use mathlib.Core.Bool.{Bool}

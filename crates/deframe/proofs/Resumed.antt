@@ -3,19 +3,18 @@
 use Prim.Native.Nat.{ℕ, zero, suc, _+_, _-_, _≤_, _<_}
 use native.Mathlib.Nat.{not-suc-le-zero, le-of-suc-le-suc}
 use native.Mathlib.Omega.{arith}
-use mathlib.Core.Bool.{Bool, true, false}
+use mathlib.Core.Bool.{Bool, true}
 use mathlib.Core.List.{List, [], _∷_, _++_}
 use mathlib.Core.Path.{_≡_, refl, sym, ap, _∙_}
 use borrow.Author.Tests.{le-ltb, ne-eqb}
-use lib.Dec.{eqb, ltb}
 use lib.ListN.{length, take, length-append}
 use lib.Seq.{take-append-add, take-nil}
-use Rattle.frame.specs.Frame.{frameOf, framed, dataBit}
+use Rattle.frame.specs.Frame.{frameOf, framed}
 use Rattle.deframe.specs.declared.Deframer.{Deframer}
 use Rattle.deframe.specs.declared.Deframer.the-variants.{Idle, Frame, Skipping}
 use Rattle.deframe.specs.declared.Pushed.the-variants.{More}
 use Rattle.deframe.specs.Read.{Read, frameStep, readOf}
-use Rattle.deframe.specs.Calls.{tenOnes, byOnes, AllBytes, none, more, Resumed, AfterTenOnes}
+use Rattle.deframe.specs.Calls.{tenOnes, byOnes, AllBytes, none, more, Resumed}
 use Rattle.frame.proofs.Bits.{frame-length}
 use Rattle.deframe.proofs.Frames.{shifted-data}
 use Rattle.deframe.proofs.Parts.{ahead, read-on}

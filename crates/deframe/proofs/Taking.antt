@@ -6,7 +6,7 @@ use native.Mathlib.Omega.{arith}
 use mathlib.Core.Bool.{Bool, true, false, true≢false}
 use mathlib.Core.List.{List, [], _∷_, _++_, append-nil, append-assoc}
 use mathlib.Core.Path.{_≡_, refl, sym, ap, _∙_}
-use borrow.Author.Tests.{lt-ltb, le-ltb, ltb-true, ltb-false}
+use borrow.Author.Tests.{ltb-true, ltb-false}
 use lib.Dec.{ltb}
 use lib.ListN.{length, take, drop, set, getD, length-set, take-append-drop, drop-of-length-le}
 use lib.Seq.{drop-cons, take-suc-set, drop-set-lt, drop-drop, set-out, length-take-le}
@@ -15,9 +15,8 @@ use Rattle.deframe.specs.declared.Deframer.the-variants.{Idle}
 use Rattle.deframe.specs.declared.Pushed.{Pushed}
 use Rattle.deframe.specs.declared.Pushed.the-variants.{More, Byte}
 use Rattle.deframe.specs.declared.Progress.{Progress}
-use Rattle.deframe.specs.declared.Reading.{Reading}
 use Rattle.deframe.specs.Read.{Read, isMark, marksOf, stepOf, oneBit, onward, stopped, readOf, answerOf, wroteOf}
-use Rattle.deframe.specs.Progress.{gaveIf, tookOf, putOf, readingOf}
+use Rattle.deframe.specs.Progress.{tookOf, putOf, readingOf}
 use Rattle.deframe.proofs.Parts.{told, none-ahead, ahead}
 
 pub record Taking (p₀ : Deframer) (bits out₀ out : List ℕ) (at : Progress) (i : ℕ) : Type 0 where

@@ -3,7 +3,7 @@ use Prim.Native.Nat.{ℕ, _+_}
 use mathlib.Core.Bool.{Bool, true, false}
 use mathlib.Core.List.{List}
 use lib.Dec.{ltb}
-use lib.ListN.{length, set}
+use lib.ListN.{set}
 use Rattle.deframe.specs.declared.Deframer.the-variants.{Idle}
 use Rattle.deframe.specs.declared.Pushed.{Pushed}
 use Rattle.deframe.specs.declared.Pushed.the-variants.{More, Byte}

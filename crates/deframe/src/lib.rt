@@ -1,6 +1,5 @@
 // Bits back into bytes: one frame's inverse, and a reader that goes over a list of bits and keeps its place. A mark, 01's bit 1, is `true`.
 ghost use mathlib.Core.Path.{_≡_};
-ghost use mathlib.Core.List.{List, _++_};
 ghost use Prim.Native.Nat.{ℕ, _≤_, _<_};
 ghost use lib.Dec.{ltb};
 ghost use lib.ListN.{length, set};

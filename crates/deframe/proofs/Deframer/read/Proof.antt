@@ -1,8 +1,7 @@
 -- `Deframer::read` meets its contract: the invariant is `Taking`; what holds from any place is `after-ten-ones` and `one-call`. Assumes nothing.
 use Prim.Native.Nat.{_-_}
 use lib.ListN.{length}
-use mathlib.Core.Path.{ap, _∙_}
-use native.Mathlib.Omega.{arith}
+use mathlib.Core.Path.{_∙_}
 use borrow.Author.Needs.{needs}
 use Rattle.deframe.proofs.Taking.{Taking, taking-start, taking-again, taking-stops, taking-end}
 use Rattle.deframe.proofs.Resumed.{after-ten-ones}
