@@ -2,7 +2,7 @@
 -- every call of a list what it answers, of a string what it counts as, and at the list's end what came of the dial line. Assumes nothing.
 use Prim.Native.Nat.{ℕ, _+_, _≤_, _<_}
 use mathlib.Core.Path.{_≡_, refl, sym, subst}
-use mathlib.Core.Bool.{true}
+use mathlib.Core.Bool.{Bool, true, false}
 use mathlib.Core.List.{List, [], _∷_, _++_, map}
 use mathlib.Core.Logic.{_⊎_, _↔_}
 use lib.Ieee.{Float, binary32, toBits, ofBits}
@@ -11,22 +11,28 @@ use Rattle.keys.specs.declared.Lit.the-variants as lit
 use Rattle.reply.specs.declared.Reply.the-variants.{None}
 use Rattle.at.specs.declared.AtProcessor.{AtProcessor}
 use Rattle.at.specs.declared.Control.the-variants.{Nothing, Dial}
+use Rattle.at.specs.Before.{endsS12Line}
 use Rattle.session.specs.declared.SessionState.{SessionState}
 use Rattle.session.specs.declared.SessionState.the-variants.{Idle, Dialling, Answering, Connected}
 use Rattle.schedule.specs.Bounds.{TotalBounds}
 use Rattle.passage.specs.Overture.{HasLength}
 use Rattle.set.specs.declared.Set.{Set}
 use Rattle.set.specs.declared.Made.{Made}
+use Rattle.set.specs.declared.Typed.{Typed}
+use Rattle.set.specs.declared.Lapsed.{Lapsed}
+use Rattle.set.specs.declared.Forced.{Forced}
+use Rattle.set.specs.declared.Filled.{Filled}
 use Rattle.set.specs.declared.Refusal.{Refusal}
 use Rattle.set.specs.Refusals.{refusalNumber}
-use Rattle.set.specs.Set.{made}
+use Rattle.set.specs.Set.{s12Of, made}
+use Rattle.set.specs.Before.{typedBefore, outboxBefore, lapsedBefore}
 use Rattle.set.specs.String.{atFront}
 use Rattle.set.specs.Book.{Book, declined, asks, blank, overture, lengthOf, declinedWith, keyAnswered, entered}
-use Rattle.set.specs.Event.{Event, Unchanged, StringEvent, StringUnchanged}
+use Rattle.set.specs.Event.{Event, typedEvent, lapsedEvent, forcedEvent, filledEvent, Unchanged, StringEvent, StringUnchanged}
 use Rattle.claim.specs.Trace.{Trace, setAfter}
 use Rattle.claim.specs.Claim.{SinceDial, notCalled, notedFill, noted, AllAtMost, NeverBack, Reports, Answered, AllAnswered, bookAfter, sinceAfter, Played}
 use Rattle.claim.specs.Strings.{Step, single, string, setOf, History, lastSet, causeOf, singles, sentIn, codesIn, allSingles, callsOf, allCalls, StringAnswered, StepAnswered, AllStepsAnswered, Claim}
-use Rattle.claim.specs.Before.{NoS12Line, AllAsBefore}
+use Rattle.claim.specs.Before.{NoS12Line, AsBefore, AllAsBefore}
 use Rattle.claim.proofs.Joined.{book-joined}
 use Rattle.claim.proofs.start.Reads as start
 
@@ -37,6 +43,20 @@ at-step r s k [] x later (answered, rest) = answered
 at-step r s k (y ∷ xs) x later (answered, rest) =
     subst (λ (k : Book). StepAnswered r (lastSet (setOf y) xs) k x) (sym (book-joined r k (callsOf y) (allCalls xs)))
     (at-step r (setOf y) (bookAfter r k (callsOf y)) xs x later rest)
+
+-- 02, E6: and a single call
+at-call : (s : Set) (es : List Event) (e : Event) (later : List Event) → AllAsBefore s (es ++ e ∷ later) → AsBefore (setAfter s es) e
+at-call s [] e later (as-before, rest) = as-before
+at-call s (x ∷ es) e later (as-before, rest) = at-call (x .set) es e later rest
+
+-- a list holds no S12 line unless a typed byte ends one
+pub typing-holds-none : (s : Set) (byte : ℕ) (carrier : Bool) (was left : List ℕ) (a : Typed) → endsS12Line (s .processor) byte ≡ false
+    → NoS12Line s (typedEvent byte carrier was left a ∷ [])
+typing-holds-none s byte carrier was left a none = (none, tt)
+
+pub others-hold-none : (s : Set) (ns : ℕ) (carrier : Bool) (a : Lapsed) (f : Forced) (was left : List Float) (b : Filled)
+    → NoS12Line s (lapsedEvent ns carrier a ∷ forcedEvent f ∷ filledEvent was left b ∷ [])
+others-hold-none s ns carrier a f was left b = (refl, (refl, (refl, tt)))
 
 -- of two stages shown the newer is not the lower one
 not-lower : (newer : List ℕ) (y : ℕ) (between : List ℕ) (x : ℕ) (older : List ℕ) → NeverBack (newer ++ y ∷ between ++ x ∷ older) → x ≤ y
@@ -61,6 +81,24 @@ module _ (rate : ℕ) (answer : Made) (d : start.Learnt tt (rate, tt) answer (ra
   -- 02, E6: the first call of a list that holds no S12 line is answered as before S12, and leaves 50; and so on, call by call
   pub without-s12 : (xs : List Step) → History s xs → NoS12Line s (allSingles s xs) → AllAsBefore s (allSingles s xs)
   without-s12 = d .1 .1
+
+  -- each of its calls, a typed byte and a lapse in full
+  module _ (xs : List Step) (t : History s xs) (none : NoS12Line s (allSingles s xs)) (es later : List Event) where
+    as-before : (e : Event) → allSingles s xs ≡ es ++ e ∷ later → AsBefore (setAfter s es) e
+    as-before e cut = at-call s es e later (subst (AllAsBefore s) cut (without-s12 xs t none))
+
+    pub typed-before-s12 : (byte : ℕ) (carrier : Bool) (was left : List ℕ) (a : Typed)
+        → allSingles s xs ≡ es ++ typedEvent byte carrier was left a ∷ later
+        → typedEvent byte carrier was left a
+        ≡ typedEvent byte carrier was (outboxBefore (setAfter s es) byte was) (typedBefore (setAfter s es) byte carrier (length was))
+    typed-before-s12 byte carrier was left a cut = as-before _ cut .answer
+
+    pub lapsed-before-s12 : (ns : ℕ) (carrier : Bool) (a : Lapsed) → allSingles s xs ≡ es ++ lapsedEvent ns carrier a ∷ later
+        → lapsedEvent ns carrier a ≡ lapsedEvent ns carrier (lapsedBefore (setAfter s es) ns carrier)
+    lapsed-before-s12 ns carrier a cut = as-before _ cut .answer
+
+    pub leaves-50 : (e : Event) → allSingles s xs ≡ es ++ e ∷ later → s12Of (e .set) ≡ 50
+    leaves-50 e cut = as-before e cut .s12
 
   module _ (xs : List Step) (e : Event) (later : List Step) (t : History s (xs ++ single e ∷ later)) where
     abbrev before : Book
