@@ -1,0 +1,2 @@
+-- What the functions' proofs cite, and lines that are computed.
+pub mod Examples

@@ -1,0 +1,2 @@
+-- Laws on what a call costs.
+pub mod Plain
