@@ -1,2 +1,3 @@
 -- Laws on what a call costs.
 pub mod Plain
+pub mod Hours
