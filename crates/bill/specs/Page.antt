@@ -5,8 +5,9 @@ use Rattle.text.specs.Text.{Page, addOf}
 use Rattle.text.specs.Digits.{decimalOf}
 use Rattle.tariff.specs.declared.Bill.{Bill}
 use Rattle.tariff.specs.Tariff.{billRefusalNumber, billOf}
+use Rattle.tariff.specs.Hours.{billFrom}
 use Rattle.bill.specs.declared.lines.Asked.{Asked}
-use Rattle.bill.specs.declared.lines.Asked.the-variants.{Time, Other}
+use Rattle.bill.specs.declared.lines.Asked.the-variants.{Time, From, Other}
 
 -- a number, and the comma after it
 abbrev pub numbered : Page → ℕ → Page
@@ -17,4 +18,5 @@ billed p bill = addOf (addOf (numbered (numbered p (billRefusalNumber (bill .ref
 
 abbrev pub answered : Page → Asked → Page
 answered p (Time ms) = billed p (billOf ms)
+answered p (From ms start) = billed p (billFrom ms start)
 answered p Other = p

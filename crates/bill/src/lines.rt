@@ -2,13 +2,15 @@
 // come in any pieces.
 ghost use mathlib.Core.Path.{_≡_};
 ghost use Prim.Native.Nat.{_+_, _*_, min};
-ghost use Rattle.bill.specs.Lines.{largest, freshLine, withDigit, spoiled, nextOf, askedOf};
+ghost use Rattle.bill.specs.Lines.{largest, freshLine, withDigit, spoiled, withComma, nextOf, askedOf};
 
 // What the bytes of a line so far come to.
 pub struct Line {
-    // at most the largest number of 64 bits
-    ms: u64,
-    // no byte yet
+    // the number before the comma, and the present one, each at most the largest of 64 bits
+    before: u64,
+    number: u64,
+    comma: bool,
+    // the present number has no digit yet
     empty: bool,
     // the line asks for nothing, whatever follows
     other: bool,
@@ -17,6 +19,8 @@ pub struct Line {
 pub enum Asked {
     // what a call of so many milliseconds costs
     Time(u64),
+    // and from this second of the week on
+    From { ms: u64, start: u64 },
     Other,
 }
 
@@ -26,7 +30,9 @@ impl Line {
         ensures { λ r. ⌜ r ≡ freshLine ⌝ }
     {
         Line {
-            ms: 0,
+            before: 0,
+            number: 0,
+            comma: false,
             empty: true,
             other: false,
         }
@@ -36,6 +42,9 @@ impl Line {
     pub fn next(self, byte: u8) -> Self
         ensures { λ r. ⌜ r ≡ nextOf self byte ⌝ }
     {
+        if byte == b',' {
+            return self.comma();
+        }
         if byte < b'0' {
             return self.spoiled();
         }
@@ -52,14 +61,35 @@ impl Line {
         if self.other | self.empty {
             return Asked::Other;
         }
-        Asked::Time(self.ms)
+        if self.comma {
+            return Asked::From {
+                ms: self.before,
+                start: self.number,
+            };
+        }
+        Asked::Time(self.number)
+    }
+
+    fn comma(self) -> Self
+        ensures { λ r. ⌜ r ≡ withComma self ⌝ }
+    {
+        if self.empty | self.comma {
+            return self.spoiled();
+        }
+        Line {
+            before: self.number,
+            number: 0,
+            comma: true,
+            empty: true,
+            ..self
+        }
     }
 
     fn digit(self, digit: u8) -> Self
         ensures { λ r. ⌜ r ≡ withDigit self digit ⌝ }
     {
         Line {
-            ms: grown(self.ms, digit),
+            number: grown(self.number, digit),
             empty: false,
             ..self
         }

@@ -1,5 +1,5 @@
-// What calls would have cost: reads lines of milliseconds, and prints for each the refusal, the units
-// and the pence.
+// What calls would have cost: reads lines of milliseconds, with or without a start, and prints for each
+// the refusal, the units and the pence.
 use libc::STDERR_FILENO;
 use lines::Line;
 ghost use mathlib.Core.Path.{_≡_};

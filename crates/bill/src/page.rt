@@ -11,6 +11,7 @@ pub fn put_answer(out: &mut [u8], at: usize, asked: Asked) -> usize
 {
     match asked {
         Asked::Time(ms) => put_bill(out, at, tariff::charge(ms)),
+        Asked::From { ms, start } => put_bill(out, at, tariff::charge_from(ms, start)),
         Asked::Other => at,
     }
 }

@@ -3,7 +3,7 @@ use Prim.Native.Nat.{ℕ, _+_, _*_, _/_, _≤_}
 use mathlib.Core.Bool.{Bool, true, false}
 use lib.Dec.{ltb}
 use Rattle.tariff.specs.declared.Refusal.{Refusal}
-use Rattle.tariff.specs.declared.Refusal.the-variants.{Accepted, TooLong}
+use Rattle.tariff.specs.declared.Refusal.the-variants.{Accepted, TooLong, Start}
 use Rattle.tariff.specs.declared.Bill.{Bill}
 
 abbrev pub unit : ℕ
@@ -16,10 +16,11 @@ unitPence = 5
 abbrev pub longestCall : ℕ
 longestCall = 86400000
 
--- "above that it gives 13"; 0 for none
+-- "above that it gives 13"; 02, E12: "a start of 604,800 or more gives 14"; 0 for none
 abbrev pub billRefusalNumber : Refusal → ℕ
 billRefusalNumber Accepted = 0
 billRefusalNumber TooLong = 13
+billRefusalNumber Start = 14
 
 -- "the answer holds the unit count and the pence"
 abbrev pub charged : ℕ → Bill

@@ -1,30 +1,41 @@
 -- `Line::next` meets its contract: each test picks the definition's case. Assumes nothing.
 use borrow.Author.Needs.{needs}
-use borrow.Author.Tests.{le-leb, lt-leb}
+use borrow.Author.Tests.{eq-eqb, ne-eqb, le-leb, lt-leb}
 use Rattle.bill.specs.Lines.{nextOf}
 use Rattle.bill.proofs.lines.Line.next.Statement.{statement}
 use Rattle.bill.proofs.lines.Line.next.Tie as tie
 
-spoiled-requires : tie.Need-spoiled-requires
-spoiled-requires c κs = search needs
+comma-requires : tie.Need-comma-requires
+comma-requires c κs = search needs
 
 returns : tie.Need-returns
 unfolding nextOf
-returns c = rw (lt-leb _ _ (c .before .if1 .taken)) (c .spoiled .ensures)
+returns c = rw (eq-eqb _ _ (c .before .if1 .taken)) (c .comma .ensures)
+
+spoiled-requires : tie.Need-spoiled-requires
+spoiled-requires c κs = search needs
+
+returns-2 : tie.Need-returns-2
+unfolding nextOf
+returns-2 c = rw (ne-eqb _ _ (c .before .before .if1 .left), lt-leb _ _ (c .before .if2 .taken)) (c .spoiled .ensures)
 
 digit-requires : tie.Need-digit-requires
 digit-requires c κs = search needs
 
-returns-2 : tie.Need-returns-2
+returns-3 : tie.Need-returns-3
 unfolding nextOf
-returns-2 c = rw (le-leb _ _ (c .before .before .if1 .left), le-leb _ _ (c .before .if2 .taken)) (c .digit .ensures)
+returns-3 c =
+    rw (ne-eqb _ _ (c .before .before .before .if1 .left), le-leb _ _ (c .before .before .if2 .left), le-leb _ _ (c .before .if3 .taken))
+    (c .digit .ensures)
 
 spoiled-requires-2 : tie.Need-spoiled-requires-2
 spoiled-requires-2 c κs = search needs
 
-returns-3 : tie.Need-returns-3
+returns-4 : tie.Need-returns-4
 unfolding nextOf
-returns-3 c = rw (le-leb _ _ (c .before .before .if1 .left), lt-leb _ _ (c .before .if2 .left)) (c .spoiled2 .ensures)
+returns-4 c =
+    rw (ne-eqb _ _ (c .before .before .before .if1 .left), le-leb _ _ (c .before .before .if2 .left), lt-leb _ _ (c .before .if3 .left))
+    (c .spoiled2 .ensures)
 
 pub next-spec : {M : Type 1} → statement M
-next-spec = tie.close (tie.spec spoiled-requires returns digit-requires returns-2 spoiled-requires-2 returns-3)
+next-spec = tie.close (tie.spec comma-requires returns spoiled-requires returns-2 digit-requires returns-3 spoiled-requires-2 returns-4)
