@@ -16,12 +16,12 @@ use Rattle.command.specs.Line.{emptyLine, typed, ranOver, uppercased}
 use Rattle.command.specs.Command.{begins, is, read, valueFrom, isSetting, settingOf, commandOf}
 use Rattle.at.specs.declared.AtProcessor.{AtProcessor}
 use Rattle.at.specs.declared.Fed.{Fed}
-use Rattle.at.specs.Processor.{commandMode, lineOf, pluses, seen, downTime, holdTime, freshS12, withLine, withEscape, added}
+use Rattle.at.specs.Processor.{commandMode, lineOf, pluses, seen, downTime, holdTime, freshS12, withLine, withEscape, withS12, added}
 use Rattle.at.specs.Command.{executed}
 use Rattle.at.specs.Escape.{guardTime, withheld, released, dataByte, dataByteIf, escaped, escapedIf, waited, waitedIf}
 use Rattle.at.specs.Carrier.{downFor, downIf, polled, polledIf}
 use Rattle.at.specs.At.{ended, endedIf, commandByte, commandByteIf, typedByte, typedByteIf, sent, sentIf, lapse, forcedData}
-use Rattle.at.specs.Before.{commandBefore, withheldBefore, escapedBefore, waitedBeforeIf, endedBeforeIf, commandByteBeforeIf, typedByteBefore, typedByteBeforeIf, sentBefore, sentBeforeIf, lapseBefore, ofS12, endsS12Line}
+use Rattle.at.specs.Before.{oneSecond, commandBefore, withheldBefore, escapedBefore, waitedBeforeIf, endedBeforeIf, commandByteBeforeIf, typedByteBefore, typedByteBeforeIf, sentBefore, sentBeforeIf, lapseBefore, ofS12, endsS12Line}
 
 clash : {A : Type 0} → _≡_ {A = Bool} true false → A
 clash e = let none : _≡_ {A = ℕ} 0 1 = cc in absurd (omega arith)
@@ -53,6 +53,19 @@ command-as-before l =
     (step (is (ascii "ATO0") line) Ato _ _
     (step (begins (ascii "ATDT") line) Atdt _ _
     (no-s12 (is (ascii "ATS12?") line) (begins (ascii "ATS12=") line) (isSetting (drop 6 line)) (valueFrom 0 (drop 6 line))))))))))))
+
+-- ---- 01's comparisons read no S12
+pub withheld-reads-none : (p : AtProcessor) (n byte : ℕ) → withheldBefore (withS12 n p) byte ≡ withheldBefore p byte
+unfolding withheldBefore
+withheld-reads-none p n byte = refl
+
+pub escaped-reads-none : (p : AtProcessor) (n : ℕ) → escapedBefore (withS12 n p) ≡ withS12 n (escapedBefore p)
+unfolding escapedBefore
+escaped-reads-none p n = go (eqb (pluses p) 3 && leb oneSecond (p .idle))
+  where
+    go : (t : Bool) → escapedIf t (withS12 n p) ≡ withS12 n (escapedIf t p)
+    go true = refl
+    go false = refl
 
 -- ---- while S12 is 50
 module _ (p : AtProcessor) (e : p .s12 ≡ freshS12) where

@@ -4,7 +4,8 @@ use Prim.Native.Char.{code}
 use Prim.Native.String.{String}
 use mathlib.Core.Path.{_≡_, refl}
 use mathlib.Core.List.{List, [], _∷_}
-use mathlib.Core.Bool.{true, false}
+use mathlib.Core.Bool.{Bool, true, false}
+use lib.ListN.{getD}
 use Rattle.ascii.specs.Ascii.{ascii}
 use Rattle.ascii.specs.Upper.{upper}
 use Rattle.reply.specs.declared.Code.the-variants.{Ok, NoCarrier, Error, S12}
@@ -21,6 +22,7 @@ use Rattle.at.specs.Command.{executed}
 use Rattle.at.specs.Escape.{withheld, released, dataByte, escaped, waited}
 use Rattle.at.specs.Carrier.{polled, downFor}
 use Rattle.at.specs.At.{ended, commandByte, typedByte, afterAtdt, sent, lapse}
+use Rattle.at.specs.Before.{endsS12Line}
 
 -- a line typed into a fresh processor
 pub typing : List ℕ → AtProcessor → AtProcessor
@@ -81,6 +83,19 @@ pub s12-wrong : (answerTo "ATS12=256" .reply ≡ One Error)
     × (answerTo "ATS12=256" .processor .s12 ≡ 50)
 unfolding answerTo
 s12-wrong = (refl, refl, refl, refl, refl, refl, refl)
+
+-- what ends an S12 line: CR after one that sets it or asks for it, and after no other
+pub endsAfter : String → String → Bool
+unfolding typing typedByte commandByte ended pushed upper uppercased begins is allDigits valueFrom isSetting settingOf commandOf executed endsS12Line
+endsAfter line last = endsS12Line (typing (ascii line) fresh) (getD (ascii last) 0 0)
+
+pub s12-lines : (endsAfter "ATS12=9" "\r" ≡ true)
+    × (endsAfter "ats12?" "\r" ≡ true)
+    × (endsAfter "ATS12?" "\n" ≡ false)
+    × (endsAfter "ATS12=256" "\r" ≡ false)
+    × (endsAfter "ATZ" "\r" ≡ false)
+unfolding endsAfter
+s12-lines = (refl, refl, refl, refl, refl)
 
 -- a lapse without a carrier, and the same followed by a plus
 pub after : ℕ → AtProcessor → AtProcessor

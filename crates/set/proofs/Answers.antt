@@ -23,7 +23,7 @@ use Rattle.set.specs.declared.Forced.{Forced}
 use Rattle.set.specs.declared.Filled.{Filled}
 use Rattle.set.specs.declared.Rung.{Rung}
 use Rattle.set.specs.Refusals.{Declined}
-use Rattle.set.specs.Set.{freshSet, creationCause, made, typingCause, typed, outbox, lapseCause, lapsed, forcedCause, forced, fillCause, fill, buffer, ringCause, rung}
+use Rattle.set.specs.Set.{s12Of, freshSet, creationCause, made, typingCause, typed, outbox, lapseCause, lapsed, forcedCause, forced, fillCause, fill, buffer, ringCause, rung}
 use Rattle.set.specs.String.{stringCause, typedAll, outboxAll, codesAll}
 use Rattle.set.specs.Event.{outboxOf, bufferOf, typedEvent, lapsedEvent, forcedEvent, filledEvent, ByCause, stringEvent, StringByCause}
 use Rattle.set.proofs.Unchanged.{unchanged}
@@ -38,6 +38,7 @@ use Rattle.set.proofs.Set.in_command_mode.Reads as in-command-mode
 use Rattle.set.proofs.Set.state.Reads as state
 use Rattle.set.proofs.Set.stage.Reads as stage
 use Rattle.set.proofs.Set.m.Reads as m
+use Rattle.set.proofs.Set.s12.Reads as s12
 use Rattle.set.proofs.Set.rate.Reads as rate
 use Rattle.set.proofs.Set.digits.Reads as digits
 
@@ -143,6 +144,9 @@ module _ (s : Set) where
 
   pub reads-m : (answer : ℕ) → m.Learnt tt (s, tt) answer (s, tt) → answer ≡ s .session .m
   reads-m answer d = d
+
+  pub reads-s12 : (answer : ℕ) → s12.Learnt tt (s, tt) answer (s, tt) → answer ≡ s12Of s
+  reads-s12 answer d = d
 
   pub reads-rate : (answer : ℕ) → rate.Learnt tt (s, tt) answer (s, tt) → answer ≡ s .rate
   reads-rate answer d = d

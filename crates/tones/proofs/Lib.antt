@@ -1,0 +1,2 @@
+-- Laws on the keys that are dialled.
+pub mod Lit
