@@ -35,6 +35,7 @@ listen: rt
 	rt check call wall tap letters bill
 	tests/call
 	tests/decode
+	tests/sender
 	tests/failures
 	tests/letters
 

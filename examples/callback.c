@@ -15,7 +15,8 @@ int main(void)
     gibbonplate_new(&set, 48000);
     for (const char *typed = "ATDT5551234\r"; *typed; typed++)
         gibbonplate_feed(&set, (uint8_t)*typed, false, outbox, sizeof outbox, &answer);
-    while (file && gibbonplate_process_out(&set, samples, 256, key) == GIBBONPLATE_ACCEPTED) {
+    while (file && gibbonplate_state(&set) == GIBBONPLATE_DIALLING) {
+        gibbonplate_process_out(&set, samples, 256, key);
         fwrite(samples, sizeof *samples, 256, file);
         printf("stage %d, sample %u\n", gibbonplate_stage(&set), gibbonplate_m(&set));
     }

@@ -41,30 +41,31 @@
 extern "C" {
 #endif
 
-#define GIBBONPLATE_MARKS 10
+#define GIBBONPLATE_MARKS 13
 
 /* A set. Its contents are the library's business. */
 typedef struct gibbonplate_set {
-    uint64_t longs[5];
+    uint64_t longs[6];
     uint32_t counts[4];
-    double reals[6];
+    double reals[11];
     uint8_t marks[GIBBONPLATE_MARKS];
     uint8_t line[80];
     uint8_t keys[76];
+    uint8_t queue[256];
 } gibbonplate_set;
 
-/* Why a call was declined. Number 4 is given no more. */
+/* Why a call was declined. Numbers 4 and 5 are given no more, and 11 is no call's here. */
 enum gibbonplate_refusal {
     GIBBONPLATE_ACCEPTED = 0,
     GIBBONPLATE_BAD_RATE = 1,      /* creation, a plan: a rate outside 8,000 to 192,000 */
     GIBBONPLATE_SHORT_OUTBOX = 2,  /* a typed byte: an outbox under 4 bytes */
     GIBBONPLATE_LONG_FILL = 3,     /* a fill of over 65,536 samples */
-    GIBBONPLATE_LINE_UP = 5,       /* a fill in state 3 */
     GIBBONPLATE_UNSOUND = 6,       /* the memory holds no set that calls can reach */
     GIBBONPLATE_BAD_POSITION = 7,  /* a cue: nothing is being dialled, or it has no such digit */
     GIBBONPLATE_LONG_STRING = 8,   /* a string of over 256 bytes */
     GIBBONPLATE_STRING_ROOM = 9,   /* a string: an outbox under 4 bytes a byte, or a code buffer under 3 */
-    GIBBONPLATE_LONG_NUMBER = 10   /* a plan: over 76 bytes, keys or not */
+    GIBBONPLATE_LONG_NUMBER = 10,  /* a plan: over 76 bytes, keys or not */
+    GIBBONPLATE_QUEUE_FULL = 12    /* a queued byte: 256 are waiting */
 };
 
 /* The states. */
@@ -81,6 +82,7 @@ enum {
     GIBBONPLATE_MAX_LINE = 80,
     GIBBONPLATE_MAX_DIGITS = 76,
     GIBBONPLATE_MAX_STRING = 256,
+    GIBBONPLATE_MAX_QUEUE = 256,
     GIBBONPLATE_NO_KEY = 255, /* the row and the column where no key is lit */
     GIBBONPLATE_MAX_REPLY = 26 /* bytes of the longest reply */
 };
@@ -92,16 +94,17 @@ typedef struct gibbonplate_answer {
 } gibbonplate_answer;
 
 /*
- * The library's own functions take the set as its six arrays, since it knows no structs of C's. Call
+ * The library's own functions take the set as its seven arrays, since it knows no structs of C's. Call
  * the functions below these; from a language that cannot include this header, call these.
  */
 #define GIBBONPLATE_ARRAYS                                                                                        \
-    uint64_t longs[5], uint32_t counts[4], double reals[6], uint8_t marks[GIBBONPLATE_MARKS], uint8_t line[80],  \
-        uint8_t keys[76]
+    uint64_t longs[6], uint32_t counts[4], double reals[11], uint8_t marks[GIBBONPLATE_MARKS], uint8_t line[80], \
+        uint8_t keys[76], uint8_t queue[256]
 #define GIBBONPLATE_CONST_ARRAYS                                                                                 \
-    const uint64_t longs[5], const uint32_t counts[4], const double reals[6], const uint8_t marks[GIBBONPLATE_MARKS], \
-        const uint8_t line[80], const uint8_t keys[76]
-#define GIBBONPLATE_OF(set) (set)->longs, (set)->counts, (set)->reals, (set)->marks, (set)->line, (set)->keys
+    const uint64_t longs[6], const uint32_t counts[4], const double reals[11], const uint8_t marks[GIBBONPLATE_MARKS], \
+        const uint8_t line[80], const uint8_t keys[76], const uint8_t queue[256]
+#define GIBBONPLATE_OF(set) \
+    (set)->longs, (set)->counts, (set)->reals, (set)->marks, (set)->line, (set)->keys, (set)->queue
 
 uint8_t gibbonplate_new_in(GIBBONPLATE_ARRAYS, uint32_t rate);
 uint8_t gibbonplate_feed_in(GIBBONPLATE_ARRAYS, uint8_t byte, bool carrier, uint8_t *outbox, size_t len,
@@ -110,6 +113,7 @@ uint8_t gibbonplate_feed_all_in(GIBBONPLATE_ARRAYS, const uint8_t *bytes, size_t
                                 uint8_t *codes, size_t places, size_t *sent);
 uint8_t gibbonplate_advance_time_in(GIBBONPLATE_ARRAYS, uint64_t ns, bool carrier, uint8_t codes[2]);
 uint8_t gibbonplate_force_data_mode_in(GIBBONPLATE_ARRAYS);
+uint8_t gibbonplate_queue_byte_in(GIBBONPLATE_ARRAYS, uint8_t byte);
 uint8_t gibbonplate_process_out_in(GIBBONPLATE_ARRAYS, float *samples, size_t len, uint8_t key[2]);
 uint8_t gibbonplate_ring_in(GIBBONPLATE_CONST_ARRAYS, uint8_t *ring);
 uint8_t gibbonplate_cue_in(GIBBONPLATE_CONST_ARRAYS, uint32_t position, uint64_t *sample, uint8_t key[2]);
@@ -174,9 +178,22 @@ static inline uint8_t gibbonplate_force_data_mode(gibbonplate_set *set)
 }
 
 /*
- * Fills the buffer with what the house hears next: silence in states 0 and 2, the call in state 1.
- * Samples are between -1 and 1. An empty fill shows the next sample's stage, and with the whole call
- * played takes the line up. Declines with 6, 3 and 5, in this order: in state 3 play what you like.
+ * A byte waits to be sent, in any state: up to GIBBONPLATE_MAX_QUEUE of them, oldest first. In state 3 the
+ * fills send them, and a byte's place is free when its frame begins. A dial line, an answer and a hang-up
+ * empty the queue; what is queued while the set dials is kept as the line goes up.
+ * Declines with 6 and 12, in this order.
+ */
+static inline uint8_t gibbonplate_queue_byte(gibbonplate_set *set, uint8_t byte)
+{
+    return gibbonplate_queue_byte_in(GIBBONPLATE_OF(set), byte);
+}
+
+/*
+ * Fills the buffer with what the house hears next: silence in states 0 and 2, the call in state 1, and in
+ * state 3 the set's own sender: mark, and the frames of the bytes queued. Samples are between -1 and 1. An
+ * empty fill shows the next sample's stage, and with the whole call played takes the line up; the fill that
+ * does so is silent past the call's end, and the next one begins the sender. Declines with 6 and 3, in this
+ * order.
  *
  * key gets the row and the column, 0 to 3 each, of the key whose tones the last sample is of, for a
  * drawing of the keypad: 123A, 456B, 789C, *0#D. It gets GIBBONPLATE_NO_KEY twice where there is none: in
@@ -223,7 +240,7 @@ static inline uint8_t gibbonplate_stage(const gibbonplate_set *set)
     return gibbonplate_stage_in(GIBBONPLATE_OF(set));
 }
 
-/* Samples written since the dial line. */
+/* Samples written since the dial line, up to where the line went up. */
 static inline uint32_t gibbonplate_m(const gibbonplate_set *set)
 {
     return gibbonplate_m_in(GIBBONPLATE_OF(set));

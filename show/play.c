@@ -38,6 +38,20 @@ static void tell(show *s, const gibbonplate_set *set, jack_nframes_t start, size
         jack_ringbuffer_write(s->events, (const char *)&event, sizeof event);
 }
 
+/* What data mode sends waits to be heard once the line is up. A full queue is told once, until a byte has a place again. */
+static void queue(show *s, const uint8_t *outbox, show_event *event)
+{
+    size_t i;
+
+    for (i = 0; i < event->answer.sent; i++) {
+        uint8_t refusal = gibbonplate_queue_byte(&s->set, outbox[i]);
+
+        if (!s->full)
+            event->refusal = refusal;
+        s->full = refusal != GIBBONPLATE_ACCEPTED;
+    }
+}
+
 static void typed(show *s, jack_nframes_t start)
 {
     show_key key;
@@ -51,6 +65,7 @@ static void typed(show *s, jack_nframes_t start)
             s->carrier = !s->carrier;
         else
             event.refusal = gibbonplate_feed(&s->set, key.byte, s->carrier, outbox, sizeof outbox, &event.answer);
+        queue(s, outbox, &event);
         if (key.carrier || event.refusal || event.answer.codes[0] || show_icon(&s->set) != icon || gibbonplate_mode(&s->set) != mode)
             tell(s, &s->set, start, 0, event);
     }
@@ -146,6 +161,7 @@ static int process(jack_nframes_t frames, void *with)
         s->made = s->rate;
         s->mute = event.refusal != GIBBONPLATE_ACCEPTED;
         s->rest = 0;
+        s->full = false;
         unlit(s);
         tell(s, &s->set, start, 0, event);
     }

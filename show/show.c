@@ -184,7 +184,9 @@ static void heard(desk *d, panel *p, const show_event *e, uint64_t lit)
 
         at += (size_t)snprintf(said + at, sizeof said - at, "%s%.*s", i ? ", " : "", (int)n, (const char *)reply);
     }
-    if (e->refusal)
+    if (e->refusal == GIBBONPLATE_QUEUE_FULL)
+        snprintf(said, sizeof said, "256 bytes wait: what is typed now is not sent");
+    else if (e->refusal)
         snprintf(said, sizeof said, "declined with %u", e->refusal);
     if (e->fresh) {
         snprintf(said, sizeof said, e->refusal ? "the rate is now %u, not 8000 to 192000: silence" : "the rate is now %u: a fresh set", e->rate);

@@ -18,7 +18,7 @@ typedef struct {
 typedef struct {
     uint64_t frame;        /* from the start of the show, which is the take's first sample */
     jack_nframes_t time;   /* the same in the server's count */
-    uint8_t refusal;       /* of a typed byte, or of a new rate */
+    uint8_t refusal;       /* of a typed byte, of what it would queue, or of a new rate */
     bool carrier;
     bool fresh;            /* the server's rate changed, and the set was made anew */
     uint32_t rate;         /* the new one */
@@ -39,6 +39,7 @@ typedef struct {
     bool mute;      /* no set can be made for it */
     bool carrier;
     uint8_t key[2]; /* of the last sample played */
+    bool full;      /* the last byte found no place in the queue */
     uint64_t rest;  /* of nanoseconds times the rate, carried over to the next buffer */
     uint64_t frame;
     /* written by one side and read by the other */

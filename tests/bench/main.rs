@@ -52,6 +52,7 @@ fn main() {
     };
     let bench = Bench { rounds };
     let equal = [bench.overtures(), bench.stages(), bench.lengths(), bench.digits()];
+    bench.sender();
     bench.calls();
     bench.plans();
     bench.bits();
@@ -207,6 +208,28 @@ impl Bench {
         equal
     }
 
+    /// 02's E10: the sender, which the Rust does not have, beside a stage of bits.
+    fn sender(&self) {
+        let (rate, length, samples) = (48_000, 4096, 400_000);
+        let lengths = stage_lengths(rate, DIGITS);
+        let total: usize = lengths.iter().sum();
+        let up = Start { rate, digits: DIGITS, skip: total + 1 };
+        let training = Start { skip: total - lengths[8], ..up };
+        let mut out = vec![0.0; samples];
+        // ten bits of 160 samples a byte, and the last byte's frame is begun
+        assert_eq!(up.sent(length, 1, &mut out), 256 - samples as u64 / 1600);
+        let mut each = |samples: usize, fill: &dyn Fn(u64, &mut [f32])| {
+            let mut best = |turns| (0..self.rounds).map(|_| nanoseconds(|| fill(turns, &mut out[..samples]))).fold(f64::MAX, f64::min);
+            (best(4) - best(0)) / (4 * samples) as f64
+        };
+        let bits = each(lengths[8], &|turns, out| { black_box(training.fills(length, turns, out)); });
+        let mark = each(samples, &|turns, out| { black_box(up.fills(length, turns, out)); });
+        let frames = each(samples, &|turns, out| { black_box(up.sent(length, turns, out)); });
+        println!("\nthe sender at {rate} in buffers of {length}, ns a sample");
+        println!("{:>10} {:>10} {:>18}", "mark", "frames", "bits (Training)");
+        println!("{mark:>10.2} {frames:>10.2} {bits:>18.2}");
+    }
+
     /// Buffers of every length.
     fn lengths(&self) -> bool {
         println!("\nwhole overtures at 48000 by the buffer's length, ns a sample");
@@ -315,7 +338,7 @@ impl Bench {
             list.iter().filter(|&&bit| reader.push_bit(bit != 0).is_some()).count() as u64
         };
         assert_eq!((port::bits(&list, 1), given(&list)), (400, 400));
-        let each = |work: &dyn Fn() -> u64| (0..self.rounds).map(|_| nanoseconds(|| drop(black_box(work())))).fold(f64::MAX, f64::min) / (1000 * list.len()) as f64;
+        let each = |work: &dyn Fn() -> u64| (0..self.rounds).map(|_| nanoseconds(|| { black_box(work()); })).fold(f64::MAX, f64::min) / (1000 * list.len()) as f64;
         let rust = each(&|| (0..1000).map(|_| given(black_box(&list))).sum());
         let port = each(&|| port::bits(black_box(&list), 1000));
         println!("\na bit read back, nanoseconds: {rust:.2} the Rust's, {port:.2} the port's");

@@ -4,6 +4,7 @@
 #[allow(improper_ctypes)]
 extern "C" {
     fn bench_fills(rate: u32, digits: &[u8], skip: usize, length: usize, turns: u64, out: &mut [f32]) -> u32;
+    fn bench_sent(rate: u32, digits: &[u8], skip: usize, length: usize, turns: u64, out: &mut [f32]) -> u64;
     fn bench_empty_fills(rate: u32, digits: &[u8], skip: usize, turns: u64) -> u32;
     fn bench_bytes(rate: u32, digits: &[u8], skip: usize, turns: u64) -> u64;
     fn bench_strings(rate: u32, digits: &[u8], skip: usize, turns: u64) -> u64;
@@ -24,6 +25,11 @@ impl Start<'_> {
     /// Fills `out` in buffers of `length`, as often as `turns` says, from the start each time.
     pub fn fills(self, length: usize, turns: u64, out: &mut [f32]) -> u32 {
         unsafe { bench_fills(self.rate, self.digits, self.skip, length, turns, out) }
+    }
+
+    /// As `fills`, with 256 bytes queued at the start; answers how many wait after the last turn.
+    pub fn sent(self, length: usize, turns: u64, out: &mut [f32]) -> u64 {
+        unsafe { bench_sent(self.rate, self.digits, self.skip, length, turns, out) }
     }
 
     pub fn empty_fills(self, turns: u64) -> u32 {

@@ -171,6 +171,7 @@ static void declined_with_6(gibbonplate_set set)
     CHECK(gibbonplate_force_data_mode(&set) == 6);
     CHECK(gibbonplate_process_out(&set, &sample, 1, key) == 6 && sample == 3 && unlit());
     CHECK(gibbonplate_process_out(&set, NULL, 0, key) == 6);
+    CHECK(gibbonplate_queue_byte(&set, 'A') == 6);
     CHECK(gibbonplate_ring(&set, &ring) == 6 && ring == 0);
     CHECK(gibbonplate_cue(&set, 0, &cued, key) == 6 && cued == 0 && unlit());
     CHECK(memcmp(&set, &was, sizeof set) == 0);
@@ -363,7 +364,7 @@ static void refusals(void)
     CHECK(memcmp(&set, &was, sizeof set) == 0);
     CHECK(gibbonplate_process_out(&set, NULL, 0, key) == 0 && gibbonplate_stage(&set) == 1 && unlit());
 
-    /* the rings, and 5 */
+    /* the rings, and the line up: a fill is heard, and m stands still */
     CHECK(gibbonplate_process_out(&set, samples, 400 + 8000 + 3200, key) == 0 && gibbonplate_stage(&set) == 3 && unlit());
     CHECK(gibbonplate_ring(&set, &ring) == 0 && ring == 1);
     CHECK(gibbonplate_process_out(&set, samples, 24001, key) == 0);
@@ -374,8 +375,14 @@ static void refusals(void)
     CHECK(gibbonplate_state(&set) == GIBBONPLATE_CONNECTED);
     was = set;
     samples[0] = 3;
-    CHECK(gibbonplate_process_out(&set, samples, 1, key) == 5 && samples[0] == 3 && unlit());
-    CHECK(memcmp(&set, &was, sizeof set) == 0);
+    CHECK(gibbonplate_process_out(&set, samples, 2, key) == 0 && samples[0] == 0 && samples[1] > 0 && unlit());
+    CHECK(gibbonplate_m(&set) == gibbonplate_m(&was) && gibbonplate_stage(&set) == 0);
+
+    /* 12 */
+    for (i = 0; i < 256; i++)
+        CHECK(gibbonplate_queue_byte(&set, (uint8_t)i) == 0);
+    was = set;
+    CHECK(gibbonplate_queue_byte(&set, 'x') == 12 && memcmp(&set, &was, sizeof set) == 0);
 
     /* carrier, time and data mode */
     CHECK(gibbonplate_advance_time(&set, 20000000, true, &answer) == 0 && answer.codes[0] == 2);
@@ -389,6 +396,8 @@ static void refusals(void)
     CHECK(memcmp(sends, "a+\r\7", 4) == 0);
 
     /* 6 */
+    for (i = 0; i < 256; i++)
+        CHECK(gibbonplate_queue_byte(&set, (uint8_t)i) == 0);
     set.counts[0] = 7999;
     CHECK(gibbonplate_feed_all(&set, string, 257, false, sends, 0, codes, 0, &sent) == 6 && sent == 0 && sends[0] == 'a');
     declined_with_6(set);
@@ -483,8 +492,20 @@ static size_t bank(gibbonplate_set *sets)
         CHECK(gibbonplate_process_out(&sets[count++], samples, 300, key) == 0);
     }
     CHECK(gibbonplate_state(&sets[count - 1]) == GIBBONPLATE_CONNECTED);
-    return count;
+    /* frames begun and bytes waiting; at last as many as can */
+    for (i = 0; i < 20; i++) {
+        sets[count] = sets[count - 1];
+        CHECK(gibbonplate_queue_byte(&sets[count], (uint8_t)random64()) == 0);
+        CHECK(gibbonplate_process_out(&sets[count++], samples, 101, key) == 0);
+    }
+    sets[count] = sets[count - 1];
+    while (gibbonplate_queue_byte(&sets[count], (uint8_t)random64()) == 0)
+        ;
+    return count + 1;
 }
+
+/* Any element of an array. */
+#define PLACE(array) ((array)[below(sizeof(array) / sizeof *(array))])
 
 /* A few places of the memory get numbers at the edges of what is allowed, or any. */
 static void scribble(gibbonplate_set *set)
@@ -496,15 +517,17 @@ static void scribble(gibbonplate_set *set)
     size_t times = below(4);
 
     while (times-- > 0) {
-        uint64_t any = below(2) ? random64() : numbers[below(sizeof numbers / sizeof *numbers)];
-        switch (below(7)) {
-        case 0: set->longs[below(5)] = any; break;
-        case 1: set->counts[below(4)] = (uint32_t)any; break;
-        case 2: memcpy(&set->reals[below(6)], &any, sizeof any); break;
-        case 3: set->reals[below(6)] = reals[below(sizeof reals / sizeof *reals)]; break;
-        case 4: set->marks[below(GIBBONPLATE_MARKS)] = (uint8_t)any; break;
-        case 5: set->line[below(80)] = (uint8_t)any; break;
-        default: set->keys[below(76)] = (uint8_t)any; break;
+        uint64_t any = below(2) ? random64() : PLACE(numbers);
+        switch (below(9)) {
+        case 0: PLACE(set->longs) = any; break;
+        case 1: PLACE(set->counts) = (uint32_t)any; break;
+        case 2: memcpy(&PLACE(set->reals), &any, sizeof any); break;
+        case 3: PLACE(set->reals) = PLACE(reals); break;
+        case 4: PLACE(set->marks) = (uint8_t)any; break;
+        case 5: PLACE(set->line) = (uint8_t)any; break;
+        case 6: ((unsigned char *)set)[below(sizeof *set)] = (unsigned char)any; break;
+        case 7: PLACE(set->queue) = (uint8_t)any; break;
+        default: PLACE(set->keys) = (uint8_t)any; break;
         }
     }
     if (below(50) == 0)
@@ -515,7 +538,7 @@ static void scribble(gibbonplate_set *set)
 static void scribbled(size_t times)
 {
     static gibbonplate_set sets[SETS];
-    size_t count = bank(sets), accepted = 0, declined[10] = {0}, i;
+    size_t count = bank(sets), accepted = 0, declined[13] = {0}, i;
     room home = walled(sizeof(gibbonplate_set)), away = walled(LONGEST * sizeof(float)), told = walled(sizeof(gibbonplate_answer));
     unsigned char before[LONGEST * sizeof(float)], text[64];
 
@@ -537,7 +560,7 @@ static void scribbled(size_t times)
         bytes = lent(away, lost, behind);
         samples = lent(away, len * sizeof(float), behind);
         memcpy(before, away.bytes + (behind ? away.size - sizeof before : 0), sizeof before);
-        switch (below(7)) {
+        switch (below(8)) {
         case 0: refusal = gibbonplate_feed(set, (uint8_t)(below(3) ? random64() : '\r'), carrier, bytes, lost, answer); break;
         case 6: {
             size_t k, typed = below(sizeof text), sent = 9;
@@ -551,10 +574,11 @@ static void scribbled(size_t times)
         case 1: refusal = gibbonplate_advance_time(set, below(2) ? random64() : below(2000000000), carrier, answer); break;
         case 2: refusal = gibbonplate_force_data_mode(set); break;
         case 3: refusal = gibbonplate_process_out(set, samples, len, key); CHECK(refusal == 0 || unlit()); break;
+        case 7: refusal = gibbonplate_queue_byte(set, (uint8_t)random64()); break;
         case 4: refusal = gibbonplate_ring(set, &ring); CHECK(refusal == 0 ? ring <= 2 : ring == 0); break;
         default: refusal = gibbonplate_cue(set, (uint32_t)below(80), &sample, key); CHECK((refusal == 0) == (sample > 0) && (refusal == 0) == !unlit()); break;
         }
-        CHECK(refusal <= 9 && refusal != 8 && refusal != 1 && refusal != 3);
+        CHECK(refusal == 0 || refusal == 2 || refusal == 6 || refusal == 7 || refusal == 9 || refusal == 12);
         declined[refusal]++;
         if (refusal == 0) {
             accepted++;
@@ -569,9 +593,9 @@ static void scribbled(size_t times)
         (void)gibbonplate_stage(set);
         (void)gibbonplate_m(set);
     }
-    printf("scribbled over %zu times: %zu calls were done, and declined with 2: %zu, 5: %zu, 6: %zu, 7: %zu, 9: %zu\n",
-           times, accepted, declined[2], declined[5], declined[6], declined[7], declined[9]);
-    CHECK(times < 100000 || (accepted > 0 && declined[2] > 0 && declined[4] == 0 && declined[5] > 0 && declined[6] > 0 && declined[7] > 0 && declined[9] > 0));
+    printf("scribbled over %zu times: %zu calls were done, and declined with 2: %zu, 6: %zu, 7: %zu, 9: %zu, 12: %zu\n",
+           times, accepted, declined[2], declined[6], declined[7], declined[9], declined[12]);
+    CHECK(times < 100000 || (accepted > 0 && declined[2] > 0 && declined[6] > 0 && declined[7] > 0 && declined[9] > 0 && declined[12] > 0));
 }
 
 int main(int argc, char **argv)

@@ -258,11 +258,7 @@ REFUSALS = [
     one("set.rs", "fill_of_65537_taken", "FILL_LIMIT: usize = 65_536", "FILL_LIMIT: usize = 65_537"),
     one("set.rs", "connected_asked_before_length", "if out.len() > FILL_LIMIT {",
         "if out.len() > FILL_LIMIT && self.session.state() != SessionState::Connected {"),
-    one("set.rs", "empty_fill_taken_in_connected", "if self.session.state() == SessionState::Connected {",
-        "if self.session.state() == SessionState::Connected && !out.is_empty() {"),
     one("set.rs", "declined_long_fill_writes", "return Answer::declined(3);", "out.fill(0.0); return Answer::declined(3);"),
-    one("set.rs", "declined_fill_writes", "return Answer::declined(5);", "out.fill(0.0); return Answer::declined(5);"),
-    one("set.rs", "declined_fill_counts", "return Answer::declined(5);", "self.m += 1; return Answer::declined(5);"),
     one("set.rs", "declined_call_repeats_what_was_sent", "self.session.begin_call(carrier);\n        if outbox",
         "if outbox >= OUTBOX_NEEDED { self.session.begin_call(carrier); }\n        if outbox"),
 ]
@@ -373,7 +369,7 @@ LINES = [
     one("lines.rs", "fill_limit_lower", "16_384", "16_383"),
     one("lines.rs", "fill_limit_higher", "16_384", "16_385"),
     one("lines.rs", "flag_of_two", "_ => None,\n    }\n}\n\n/// One", "_ => Some(true),\n    }\n}\n\n/// One"),
-    one("lines.rs", "byte_wraps", "u8::try_from(byte).ok()?", "byte as u8"),
+    one("lines.rs", "byte_wraps", "let byte = u8::try_from(byte).ok()?;", "let byte = byte as u8;"),
     one("lines.rs", "nanoseconds_saturate", "u64::try_from(nanos).ok()?", "nanos.min(u64::MAX as u128) as u64"),
     one("lines.rs", "rate_wraps", "Some(Call::Create { rate })", "Some(Call::Create { rate: rate as u32 as u128 })"),
     one("lines.rs", "long_rate_is_an_other_line", '(b"R", &[rate]) =>', '(b"R", &[rate]) if rate <= u64::MAX as u128 =>'),
@@ -535,9 +531,90 @@ BITS = [
     one("lines.rs", "bits_room_of_65", "room <= 64", "room <= 65"),
 ]
 
+# ---------------------------------------------------------------- 02's E10, sound after Connected
+
+PLAY = "self.sender.play(&mut self.waiting, out);"
+NEXT = "self.left = waiting.pop_front().map(frame).unwrap_or_default();"
+
+SENDER = [
+    one("sender.rs", "sender_mark", "MARK: f64 = 1270.0", "MARK: f64 = 1271.0"),
+    one("sender.rs", "sender_space", "SPACE: f64 = 1070.0", "SPACE: f64 = 1071.0"),
+    Mutant("sender_mark_and_space_exchanged", "sender.rs", ("MARK: f64 = 1270.0", "MARK: f64 = 1070.0"), ("SPACE: f64 = 1070.0", "SPACE: f64 = 1270.0")),
+    Mutant("sender_of_the_answering_end", "sender.rs", ("MARK: f64 = 1270.0", "MARK: f64 = 2225.0"), ("SPACE: f64 = 1070.0", "SPACE: f64 = 2025.0")),
+    one("sender.rs", "sender_amplitude", "AMPLITUDE: f64 = 0.7", "AMPLITUDE: f64 = 0.6"),
+    one("sender.rs", "sender_baud", "BAUD: f64 = 300.0", "BAUD: f64 = 301.0"),
+    Mutant("sender_narrowed_before_the_amplitude", "sender.rs", ("sin(self.phase) * AMPLITUDE", "sin(self.phase) as f32 * AMPLITUDE as f32"), ("sample as f32\n", "sample\n")),
+    one("sender.rs", "sender_step_regrouped", "TAU * if bit { MARK } else { SPACE } / self.rate", "TAU * (if bit { MARK } else { SPACE } / self.rate)"),
+    one("sender.rs", "sender_restarts_at_a_bit", "            self.step = TAU", "            self.phase = 0.0;\n            self.step = TAU"),
+    Mutant("sender_tone_a_sample_late", "sender.rs", ("        if self.edge {\n            let bit", "        let before = self.step;\n        if self.edge {\n            let bit"),
+           ("self.phase += self.step", "self.phase += before")),
+    one("sender.rs", "sender_full_turn_not_taken_off", "self.phase >= TAU", "self.phase > TAU"),
+    one("sender.rs", "sender_phase_to_zero_at_a_turn", "self.phase -= TAU", "self.phase = 0.0"),
+    one("sender.rs", "sender_symbol_edge", "self.symbol >= 1.0", "self.symbol > 1.0"),
+    one("sender.rs", "sender_symbol_phase_to_zero", "self.symbol -= 1.0", "self.symbol = 0.0"),
+    one("sender.rs", "sender_first_sample_no_edge", "edge: true", "edge: false"),
+    one("sender.rs", "sender_idles_on_space", "unwrap_or(true)", "unwrap_or(false)"),
+    one("sender.rs", "sender_begins_with_training", "left: VecDeque::new()", "left: frame(0x55)"),
+    one("sender.rs", "sender_newest_first", "waiting.pop_front()", "waiting.pop_back()"),
+    one("sender.rs", "sender_nine_bits", "(0..8)", "(0..7)"),
+    one("sender.rs", "sender_highest_bit_first", "byte >> i & 1", "byte >> (7 - i) & 1"),
+    one("sender.rs", "sender_no_start_bit", "[false].into_iter()", "[].into_iter()"),
+    one("sender.rs", "sender_two_stop_bits", "chain([true])", "chain([true, true])"),
+    one("sender.rs", "frame_begun_with_the_sample_before", "            self.symbol -= 1.0;\n",
+        "            self.symbol -= 1.0;\n            if self.left.is_empty() {\n                " + NEXT + "\n"
+        "                if self.left.is_empty() { self.left.push_back(true); }\n            }\n"),
+    one("sender.rs", "frame_begun_inside_a_symbol", "        if self.edge {\n            let bit", "        if self.edge || self.left.is_empty() && !waiting.is_empty() {\n            let bit"),
+    one("sender.rs", "frame_begun_by_an_empty_fill", "        for sample in out {", "        if out.is_empty() && self.edge && self.left.is_empty() { " + NEXT + " }\n        for sample in out {"),
+    one("sender.rs", "frame_begun_by_a_fills_first_sample_only", "        for sample in out {\n            *sample = self.sample(waiting);",
+        "        let mut none = VecDeque::new();\n        for (i, sample) in out.iter_mut().enumerate() {\n            *sample = self.sample(if i == 0 { &mut *waiting } else { &mut none });"),
+    Mutant("place_free_when_its_frame_ends", "sender.rs", (NEXT, "self.left = waiting.front().copied().map(frame).unwrap_or_default();"),
+           ("        self.left.pop_front().unwrap_or(true)", "        let bit = self.left.pop_front();\n        if bit.is_some() && self.left.is_empty() { waiting.pop_front(); }\n        bit.unwrap_or(true)")),
+    one("sender.rs", "edge_forgotten_between_fills", "        for sample in out {", "        self.edge |= !out.is_empty();\n        for sample in out {"),
+    one("set.rs", "silence_after_connected", PLAY, "out.fill(0.0);"),
+    one("set.rs", "nothing_written_after_connected", PLAY, ""),
+    one("set.rs", "fill_in_connected_is_5", PLAY + "\n            return Answer::default();", "return Answer::declined(5);"),
+    one("set.rs", "m_counts_on", PLAY, PLAY + " self.m += out.len() as u64;"),
+    one("set.rs", "key_lit_in_connected", PLAY, PLAY + " self.lit = (!out.is_empty()).then_some((0, 0));"),
+    one("set.rs", "stage_10_shown", "self.session.stage().map_or(0, number_of)", "if self.state() == 3 { 10 } else { self.session.stage().map_or(0, number_of) }"),
+    one("set.rs", "sender_not_fresh", "self.sender = Sender::new(self.session.rate);", ""),
+    one("set.rs", "sender_plays_as_the_line_goes_up", "self.sender = Sender::new(self.session.rate);",
+        "self.sender = Sender::new(self.session.rate); if let Some(last) = out.last_mut() { self.sender.play(&mut self.waiting, core::slice::from_mut(last)); }"),
+    one("set.rs", "queue_emptied_as_the_line_goes_up", "self.sender = Sender::new(self.session.rate);", "self.sender = Sender::new(self.session.rate); self.waiting.clear();"),
+    one("set.rs", "sender_at_8000", "self.sender = Sender::new(self.session.rate);", "self.sender = Sender::new(8_000);"),
+    one("set.rs", "queue_of_257", "QUEUE_LIMIT: usize = 256", "QUEUE_LIMIT: usize = 257"),
+    one("set.rs", "queue_of_255", "QUEUE_LIMIT: usize = 256", "QUEUE_LIMIT: usize = 255"),
+    one("set.rs", "full_queue_is_9", "Answer::declined(12)", "Answer::declined(9)"),
+    one("set.rs", "full_queue_loses_its_oldest", "return Answer::declined(12);", "self.waiting.pop_front();"),
+    one("set.rs", "full_queue_changes_its_newest", "return Answer::declined(12);", "self.waiting.pop_back(); self.waiting.push_back(byte); return Answer::declined(12);"),
+    one("set.rs", "queue_in_connected_alone", "self.waiting.push_back(byte);", "if self.state() == 3 { self.waiting.push_back(byte); }"),
+    one("set.rs", "queued_at_the_front", "self.waiting.push_back(byte);", "self.waiting.push_front(byte);"),
+    one("set.rs", "queued_byte_is_told_as_sent", "self.waiting.push_back(byte);", "self.waiting.push_back(byte); self.session.send(&[byte]);"),
+    one("set.rs", "queuing_repeats_what_was_sent", "        self.session.begin_call(false);\n        if self.waiting.len()", "        if self.waiting.len()"),
+    one("set.rs", "queuing_puts_out_the_key", "self.waiting.push_back(byte);", "self.waiting.push_back(byte); self.lit = None;"),
+    one("set.rs", "queue_kept_over_a_redial", "self.waiting.clear();", "if self.state() != 1 { self.waiting.clear(); }"),
+    one("set.rs", "queue_kept_over_an_answer", "self.waiting.clear();", "if self.state() != 2 { self.waiting.clear(); }"),
+    one("set.rs", "queue_kept_over_a_hang_up", "self.waiting.clear();", "if self.state() != 0 { self.waiting.clear(); }"),
+    one("stand_in.rs", "queue_kept_over_a_hang_up_in_idle", "self.inner.hangup();\n        self.moved = true;",
+        "let up = self.inner.state() != SessionState::Idle; self.inner.hangup();\n        self.moved = up;"),
+    one("set.rs", "queue_kept_over_a_lost_carrier", "let reply = self.at.advance_time(lapse, &mut self.session);\n        self.begin_anew_if_moved();",
+        "let reply = self.at.advance_time(lapse, &mut self.session);\n        let kept = self.waiting.clone(); self.begin_anew_if_moved(); self.waiting = kept;"),
+    one("set.rs", "queue_kept_over_a_lost_carrier_at_s12", "            return self.perform(step);\n        }\n        let reply = self.at.advance_time",
+        "            let kept = self.waiting.clone(); let told = self.perform(step); self.waiting = kept; return told;\n        }\n        let reply = self.at.advance_time"),
+    one("set.rs", "queue_kept_at_s12", "self.session.send(&step.sent);\n        self.begin_anew_if_moved();",
+        "self.session.send(&step.sent);\n        let kept = self.waiting.clone(); self.begin_anew_if_moved(); self.waiting = kept;"),
+    one("set.rs", "queue_emptied_by_forced_data", "self.at.force_data_mode();", "self.at.force_data_mode(); self.waiting.clear();"),
+    one("set.rs", "queue_emptied_by_every_lapse", "let step = self.guard.lapse", "self.waiting.clear(); let step = self.guard.lapse"),
+    one("set.rs", "bytes_sent_are_queued", "        Answer::replied(reply)\n    }\n\n    /// 02's E3", "        self.waiting.extend(&self.session.sent);\n        Answer::replied(reply)\n    }\n\n    /// 02's E3"),
+    one("main.rs", "queue_kept_by_a_fresh_set", "            *set = fresh;\n", "            let kept = std::mem::replace(set, fresh).waiting;\n            set.waiting = kept;\n"),
+    one("lines.rs", "queue_without_ext", '(b"Q", &[byte]) if extended', '(b"Q", &[byte])'),
+    one("lines.rs", "queued_byte_wraps", "Call::Queue { byte: u8::try_from(byte).ok()? }", "Call::Queue { byte: byte as u8 }"),
+    one("lines.rs", "queue_with_more_fields", '(b"Q", &[byte]) if', '(b"Q", &[byte, ..]) if'),
+]
+
 # ---------------------------------------------------------------- Cannot be seen
 
 UNSEEN = [
+    one("sender.rs", "unseen_fresh_at_space", "step: TAU * MARK / rate", "step: TAU * SPACE / rate", unseen="the sender's first sample is an edge, and its bit sets the step"),
     one("lines.rs", "unseen_frame_without_ext", '(b"U", &[]) if extended', '(b"U", &[])', unseen="without --ext nothing is kept, so that no frame has ten bits"),
     one("libm.rs", "unseen_reflection_at_q", "if y > Q", "if y >= Q", unseen="H - Q is Q"),
     one("libm.rs", "unseen_sine_at_zero", "0.0 <= x", "0.0 < x", unseen="S(0) is 0.0 either way"),
@@ -566,4 +643,4 @@ UNSEEN = [
     one("at.rs", "unseen_fourth_plus_late", "1 | 2 => idle <= GUARD_TIME", "1 | 2 | 4.. => idle <= GUARD_TIME", unseen="no more than three are held"),
 ]
 
-ALL = FLOATS + KEYS + STAGES + SET + REFUSALS + AT + LINES + CUE + STRINGS + S12 + BITS + LIT + UNSEEN
+ALL = FLOATS + KEYS + STAGES + SET + REFUSALS + AT + LINES + CUE + STRINGS + S12 + BITS + LIT + SENDER + UNSEEN

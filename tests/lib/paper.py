@@ -7,6 +7,7 @@ by it, and tests/oracle/check holds the oracle against it.
 
 import bisect
 import functools
+import itertools
 import math
 import struct
 
@@ -19,6 +20,7 @@ LINE_LIMIT = 80
 FILL_LIMIT = 65_536
 OUTBOX_NEEDED = 4
 STRING_LIMIT = 256
+QUEUE_LIMIT = 256
 KEPT = 300
 CR, LF, PLUS = 13, 10, 43
 
@@ -288,6 +290,45 @@ def overture(digits, rate):
     yield from keyed(PAYLOADS[9], rate)
 
 
+# ---------------------------------------------------------------- 02's E10, sound after Connected
+
+class SymbolClock:
+    """Which of the sender's samples, from 0, are edges, by the symbol phase; worked out as far as was asked."""
+
+    def __init__(self, rate):
+        self.step, self.phase, self.n, self.edges = 300 / rate, 0.0, 0, [0]
+
+    def begun(self, count):
+        """How many symbols have begun once `count` samples are made."""
+        while self.n <= count:
+            self.phase += self.step
+            self.n += 1
+            if self.phase >= 1:
+                self.phase -= 1
+                self.edges.append(self.n)
+        return bisect.bisect_left(self.edges, count)
+
+    def to_edge(self, count):
+        """How many samples are made before the next edge's; none where that is the next."""
+        while self.edges[-1] < count:
+            self.begun(self.n + 1)
+        return self.edges[bisect.bisect_left(self.edges, count)] - count
+
+
+symbol_clock = functools.lru_cache(maxsize=None)(SymbolClock)
+
+
+def sent_wave(bits, rate):
+    """The samples since the line went up, before narrowing. `bits` grows as symbols begin."""
+    oscillator, phase, step = Oscillator(1270, rate), 0.0, 300 / rate
+    for symbol in itertools.count():
+        oscillator.tune(1270 if bits[symbol] else 1070)
+        while phase < 1:
+            yield oscillator.next() * 0.7
+            phase += step
+        phase -= 1
+
+
 # ---------------------------------------------------------------- The set
 
 class Set:
@@ -301,6 +342,8 @@ class Set:
         self.seen, self.down = False, 0
         self.sent, self.cued, self.codes = b"", 0, b""
         self.lit, self.cued_key = None, None
+        self.waiting = b""
+        self.line_goes_up()
 
     # Each call gives (refusal, codes); `sent` holds what the last one sent.
 
@@ -369,7 +412,7 @@ class Set:
         if length > FILL_LIMIT:
             return 3, ()
         if self.state == CONNECTED:
-            return 5, ()
+            self.play(length)
         if self.state == DIALLING:
             self.m += length
             sample = self.m if length > 0 else self.m + 1
@@ -378,6 +421,27 @@ class Set:
                 self.lit = key_of_sample(self.m, self.digits, self.rate)
             if self.shown == 10:
                 self.state, self.shown = CONNECTED, 0
+                self.line_goes_up()
+        return 0, ()
+
+    def line_goes_up(self):
+        """02's E10: the sender is fresh: samples made, bits of the symbols begun, bits of a frame not begun."""
+        self.played, self.bits, self.rest = 0, [], ()
+        self.wave = sent_wave(self.bits, self.rate)
+
+    def play(self, length):
+        self.played += length
+        while len(self.bits) < symbol_clock(self.rate).begun(self.played):
+            if not self.rest and self.waiting:
+                self.rest, self.waiting = tuple(frame(self.waiting[0])), self.waiting[1:]
+            self.bits.append(self.rest[0] if self.rest else 1)
+            self.rest = self.rest[1:]
+
+    def queue_byte(self, byte):
+        self.sent = b""
+        if len(self.waiting) == QUEUE_LIMIT:
+            return 12, ()
+        self.waiting += bytes([byte])
         return 0, ()
 
     def ring(self):
@@ -406,8 +470,8 @@ class Set:
         self.command_mode, self.pluses, self.idle = False, 0, 0
 
     def move(self, state):
-        """Dial, answer and hang-up: count and shown stage to 0, the mark cleared."""
-        self.state, self.m, self.shown, self.seen = state, 0, 0, False
+        """Dial, answer and hang-up: count and shown stage to 0, the mark cleared, nothing waits."""
+        self.state, self.m, self.shown, self.seen, self.waiting = state, 0, 0, False, b""
 
     def execute(self, line, carrier):
         if line == b"AT":
@@ -476,6 +540,7 @@ def parsed(line, extended=False):
         limits[b"B", 1] = (64,)
         limits[b"U", 0] = ()
         limits[b"K", 0] = ()
+        limits[b"Q", 1] = (255,)
     limit = limits.get((letter, len(numbers)))
     if limit is None or any(most is not None and n > most for n, most in zip(numbers, limit)):
         return None
@@ -485,6 +550,16 @@ def parsed(line, extended=False):
 def byte_of(frame):
     """The byte of a frame's bits, which are text."""
     return bytes([int(frame[8:0:-1], 2)])
+
+
+def shown_samples(bits):
+    """A fill's samples as the second line tells them."""
+    if len(bits) <= 8:
+        return f" n={len(bits)}" + "".join(f" {word:08X}" for word in bits)
+    value = 0xCBF29CE484222325
+    for byte in b"".join(word.to_bytes(4, "little") for word in bits):
+        value = (value ^ byte) * 0x100000001B3 % 2**64
+    return f" n={len(bits)} fnv={value:016X}"
 
 
 def shown_key(key):
@@ -520,6 +595,8 @@ class Wall:
             return self.take_frame()
         if letter == "K":
             return 0, ()
+        if letter == "Q":
+            return self.set.queue_byte(numbers[0])
         if letter == "S":
             string, self.kept = self.kept, b""
             return self.set.feed_all(string, numbers[0] == 1, *numbers[1:])

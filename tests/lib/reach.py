@@ -14,6 +14,9 @@ from paper import (
 
 STATE_NAMES = ("Idle", "Dialling", "Answering", "Connected")
 
+# 02's E10: so many samples after the line went up are held against 01 in Python, which is slow.
+HEARD = 1_500
+
 
 class Disagreement(Exception):
     """The oracle's answer is not 01's."""
@@ -67,11 +70,14 @@ def count(script, answers, extended=False, spread=None):
         expected, facts = wall.answer(call), wall.facts(call)
         row, second = rows[at], rows[at + 1]
         at += 2
+        if call[0] == "F" and before.state == CONNECTED and row[0] == "0":
+            facts += samples_heard(wall.set, call[1][0])
         if row != expected or not (second == facts or second.startswith(facts + " n=")):
             raise Disagreement(f"line {number} {line!r}: {row} / {second}, by 01 {expected} / {facts}")
         note_answer(reached, call, row.split(","), wall.set)
         if call[0] == "R" and before.place:
             reached["place set back by a fresh set" if row[0] == "0" else "place set back by a declined one"] += 1
+        note_emptied(reached, before, call, wall.set)
         if call[0] in "BU":
             note_bits(reached, before, call, wall)
         else:
@@ -83,6 +89,13 @@ def count(script, answers, extended=False, spread=None):
     return reached
 
 
+def samples_heard(s, length):
+    """02's E10: what the second line tells of a fill's samples in Connected; nothing for those too late to be held against 01."""
+    if s.played > HEARD:
+        return ""
+    return paper.shown_samples([paper.narrowed_bits(next(s.wave)) for _ in range(length)])
+
+
 class Before:
     """What a call found."""
 
@@ -92,6 +105,7 @@ class Before:
         self.place = place
         self.__dict__.update(vars(s))
         self.set, self.kept = copy.copy(s), kept
+        self.begun = len(s.bits)
         self.next_stage = 0
         self.ends = ()
         if s.state == DIALLING:
@@ -275,13 +289,12 @@ def note_fill(reached, before, numbers, after, row):
     if row[0] == "3":
         reached[f"fill too long in {name}"] += 1
         return
-    if row[0] == "5":
-        reached["empty fill in Connected" if length == 0 else "fill in Connected"] += 1
-        return
     reached[f"{'empty fill' if length == 0 else 'fill'} in {name}"] += 1
     reached["fill of 65,536"] += length == 65_536
     if before.state == DIALLING:
         note_overture(reached, before, length, after)
+    if before.state == CONNECTED:
+        note_sending(reached, before, length, after)
 
 
 def note_overture(reached, before, length, after):
@@ -295,6 +308,8 @@ def note_overture(reached, before, length, after):
         else:
             reached["line up by a fill over T"] += 1
         reached["line up one past T"] += after.m == end + 1
+        reached["line up with bytes waiting"] += len(after.waiting) > 0
+        reached["line up after a frame that was cut off"] += len(before.rest) > 0
         return
     if length == 0:
         if before.m in before.ends:
@@ -448,14 +463,75 @@ def note_lit(reached, before, length, row, after):
         reached["no key in a gap's last sample"] += around[1] is not None
 
 
-NOTES = {"K": note_key, "R": note_create, "T": note_typed, "W": note_lapse, "F": note_fill, "D": note_forced, "C": note_cue, "S": note_string}
+def to_edge(s):
+    return paper.symbol_clock(s.rate).to_edge(s.played)
+
+
+def note_sending(reached, before, length, after):
+    """02's E10: which frames a fill in Connected began, and where it ended."""
+    if length == 0:
+        reached["empty fill at an edge with a byte waiting"] += bool(before.waiting) and not before.rest and to_edge(before) == 0
+        return
+    reached["fill of one sample in Connected"] += length == 1
+    reached["fill of one sample at an edge"] += length == 1 and to_edge(before) == 0
+    reached["fill that ends one short of an edge"] += to_edge(after) == 1
+    reached["fill that ends before an edge"] += to_edge(after) == 0
+    reached["fill that ends with an edge"] += after.played - 1 in paper.symbol_clock(after.rate).edges
+    begun = len(before.waiting) - len(after.waiting)
+    reached["no frame begun before the edge"] += bool(before.waiting) and not before.rest and begun == 0
+    reached["fill inside a frame"] += bool(before.rest) and bool(after.rest) and begun == 0
+    reached["fill that ends a frame"] += bool(before.rest) and not after.rest
+    reached["fill of mark alone"] += not before.rest and not begun and not before.waiting and len(after.bits) > before.begun
+    reached["several frames in a fill"] += begun > 1
+    reached["frame after a frame"] += begun > 1 or (begun == 1 and len(before.rest) > 0)
+    if begun and not before.rest:
+        reached["frame begun by the first sample after the line went up"] += before.played == 0
+        reached["frame begun by a fill's first sample"] += before.played > 0 and to_edge(before) == 0
+        reached["frame begun inside a fill"] += to_edge(before) > 0
+        reached["frame begun by a fill's last sample"] += len(after.rest) == 9 and after.played - 1 in paper.symbol_clock(after.rate).edges
+        reached["frame begun after mark"] += before.begun > 0
+
+
+def note_queued(reached, before, numbers, after, row):
+    """02's E10: where a byte was queued."""
+    state, waiting = STATE_NAMES[before.state], len(before.waiting)
+    if row[0] == "12":
+        reached[f"queue full in {state}"] += 1
+        return
+    reached[f"byte queued in {state}"] += 1
+    reached["byte queued behind others"] += waiting > 0
+    reached["byte queued in the last place"] += waiting == paper.QUEUE_LIMIT - 1
+    reached[f"byte {numbers[0]} queued"] += numbers[0] in (0, 255)
+    if before.state == CONNECTED:
+        edge = "at an edge" if to_edge(before) == 0 else "inside a symbol"
+        reached[f"byte queued {edge}, {'in' if before.rest else 'outside'} a frame"] += 1
+        reached["byte queued before the first sample"] += before.played == 0
+        reached["byte queued in the place of one that is being sent"] += len(before.rest) > 0 and waiting == paper.QUEUE_LIMIT - 1
+    reached["byte queued at an S12 of its own"] += before.s12 != paper.FRESH_S12
+
+
+def note_emptied(reached, before, call, after):
+    """02's E10: what emptied the queue."""
+    if not before.waiting or after.waiting or call[0] == "F":
+        return
+    state = STATE_NAMES[before.state]
+    move = {"R": "a fresh set", "W": "a lost carrier", "S": "a string"}.get(call[0])
+    if move is None:
+        move = {IDLE: "a hang-up", DIALLING: "a dial line", ANSWERING: "an answer"}[after.state]
+    reached[f"queue emptied by {move} in {state}"] += 1
+    reached["queue emptied inside a frame"] += before.state == CONNECTED and len(before.rest) > 0
+    reached["queue emptied at an S12 of its own"] += before.s12 != paper.FRESH_S12
+    reached["full queue emptied"] += len(before.waiting) == paper.QUEUE_LIMIT
+
+
+NOTES = {"Q": note_queued, "K": note_key, "R": note_create, "T": note_typed, "W": note_lapse, "F": note_fill, "D": note_forced, "C": note_cue, "S": note_string}
 
 
 # ---------------------------------------------------------------- what must be reached
 
 def must(extended):
     """The names that have to be counted; those of --ext only where it is on."""
-    names = [f"refusal {n}" for n in (0, 1, 5)]
+    names = [f"refusal {n}" for n in (0, 1)]
     names += ["mode C", "mode D", "other line"]
     names += [f"state {n}" for n in range(4)] + [f"stage {n}" for n in range(10)] + [f"ring {n}" for n in range(3)]
     names += [f"codes {c} on T" for c in ("0,0", "1,0", "2,0", "4,0", "5,1", "1,3")]
@@ -496,7 +572,7 @@ def must(extended):
     names += [f"fill ends one short of the end of stage {n}" for n in range(1, 10)]
     names += [f"fill ends one past the end of stage {n}" for n in range(1, 9)]
     names += ["line up by an empty fill at T", "line up by a fill from T", "line up by a fill over T"]
-    names += ["line up one past T", "fill over two stage ends"]
+    names += ["line up one past T", "fill over two stage ends", "fill of mark alone"]
     names += ["data mode forced", "data mode forced inside a line", "data mode forced with pluses held"]
     if extended:
         names += ["refusal 2", "refusal 3", "outbox too short in command mode", "outbox too short in data mode"]
@@ -525,6 +601,18 @@ def must(extended):
         names += ["no bits", "299 bits", "300 bits", "room of 0", "room of 1", "room of 64", "zero stop bit", "zero while skipping"]
         names += ["place set back by a fresh set", "place set back by a declined one"]
         names += [f"string that {what}" for what in ("dials", "answers", "hangs up", "hangs up and dials")]
+        names += ["refusal 12"] + [f"{what} in {state}" for what in ("byte queued", "queue full") for state in STATE_NAMES]
+        names += ["byte queued behind others", "byte queued in the last place", "byte queued in the place of one that is being sent"]
+        names += [f"byte queued {where}, {how} a frame" for where in ("at an edge", "inside a symbol") for how in ("in", "outside")]
+        names += ["byte 0 queued", "byte 255 queued", "byte queued before the first sample", "byte queued at an S12 of its own"]
+        names += ["line up with bytes waiting", "line up after a frame that was cut off"]
+        names += ["empty fill at an edge with a byte waiting", "fill of one sample in Connected", "fill of one sample at an edge"]
+        names += ["fill that ends one short of an edge", "fill that ends before an edge", "fill that ends with an edge"]
+        names += ["no frame begun before the edge", "fill inside a frame", "fill that ends a frame", "several frames in a fill", "frame after a frame"]
+        names += [f"frame begun {where}" for where in ("by the first sample after the line went up", "by a fill's first sample", "inside a fill", "by a fill's last sample", "after mark")]
+        names += [f"queue emptied by {what} in {state}" for what in ("a hang-up", "a dial line", "an answer", "a fresh set", "a string") for state in STATE_NAMES]
+        names += [f"queue emptied by a lost carrier in {state}" for state in STATE_NAMES if state != "Idle"]
+        names += ["queue emptied inside a frame", "queue emptied at an S12 of its own", "full queue emptied"]
     return names
 
 

@@ -36,6 +36,7 @@ OTHER_LINES = (
     b"M", b"M,", b"M,256", b"M,65,0", b"m,65", b"S", b"S,0", b"S,0,4", b"S,2,4,2", b"S,0,1201,2", b"S,0,4,1201", b"S,0,4,2,0", b"s,0,4,2",
     b"B", b"B,", b"B,65", b"B,64,0", b"b,64", b"B,-1", b"U,", b"U,0", b"u", b"UU",
     b"K,", b"K,0", b"KK", b"k", b"K ", b"K\r", b"# key=00",
+    b"Q", b"Q,", b"Q,256", b"Q,65,0", b"q,65", b"Q,-1", b"Q,18446744073709551616", b"QQ", b"Q 65", b"Q,65\r",
 )
 
 
@@ -556,7 +557,8 @@ class Script:
             self.dial_line()
             self.go_to(self.set.length())
             self.fill(self.random.choice((0, 1, 5)))
-        self.fill(self.random.choice((0, 1, 9)))
+        for _ in range(self.random.randint(1, 3)):
+            self.fill(self.random.choice((0, 1, 9, 160)))
         self.scene_noise()
         if self.extended and self.chance(0.3):
             self.fill(65_537)
@@ -564,6 +566,97 @@ class Script:
             self.cue(0)
         followers = (self.scene_dial, self.scene_carrier, self.scene_resume, self.scene_hang_up, self.scene_escape)
         self.random.choice(followers)()
+
+    def queue(self, byte=None):
+        self.put(b"Q," + self.number(self.random.randint(0, 255) if byte is None else byte))
+
+    def scene_queue(self):
+        """02's E10: bytes queued in whatever state, and then a fresh set or something that empties the queue, or not."""
+        if not self.extended:
+            return
+        pick = self.random.random()
+        if pick < 0.6:
+            self.enter(self.random.choice((b"ATH", b"ATA", b"ATDT5")))
+        for _ in range(self.random.randint(1, 3)):
+            self.queue()
+        if self.chance(0.12):
+            for _ in range(paper.QUEUE_LIMIT + self.random.choice((0, 1, 1, 2)) - len(self.set.waiting)):
+                self.queue()
+        if self.chance(0.3):
+            self.scene_fill()
+        if self.chance(0.8):
+            self.empty_queue()
+
+    def empty_queue(self):
+        """What empties it; a byte may be queued right after."""
+        pick = self.random.random()
+        if pick < 0.2:
+            self.dial_line()
+        elif pick < 0.5:
+            self.enter(self.random.choice((b"ATH", b"ATH0", b"ATA")))
+        elif pick < 0.65:
+            self.to_command_mode()
+            self.type_string(self.random.choice((b"\rATH\r", b"\rATA\r", b"\rATDT\r")))
+        elif pick < 0.85:
+            self.lapse(1, True)
+            self.lapse_in_pieces(CARRIER_HOLD, False)
+        else:
+            self.scene_fresh()
+        if self.chance(0.5):
+            self.queue()
+
+    def to_edge(self, after=0):
+        """How many of the sender's samples are made before the next edge's, or before one of those after it."""
+        clock, at = paper.symbol_clock(self.set.rate), self.set.played
+        at += clock.to_edge(at)
+        for _ in range(after):
+            at += 1 + clock.to_edge(at + 1)
+        return at - self.set.played
+
+    def scene_sending(self):
+        """02's E10: bytes queued before the line goes up and after it, in fills that end around the edges of symbols and frames."""
+        if not self.extended:
+            return
+        if self.set.state != CONNECTED:
+            if self.set.rate > 16_000:
+                self.create(self.random.choice((8_000, 8_001, 11_025)))
+            if self.chance(0.2):
+                self.set_s12()
+            self.queue()
+            self.dial_whole(self.random.choice((0, 0, 1, 2)))
+            for _ in range(self.random.choice((0, 0, 1, 2))):
+                self.queue()
+            self.go_to(self.set.length())
+            self.fill(self.random.choice((0, 0, 1, 5)))
+        for _ in range(self.random.randint(4, 14)):
+            self.send_some()
+        if self.chance(0.06):
+            self.fill_the_queue()
+        if self.chance(0.6):
+            self.empty_queue()
+
+    def send_some(self):
+        pick = self.random.random()
+        if pick < 0.35:
+            self.fill(max(0, self.to_edge(self.random.choice((0, 0, 0, 1, 8, 9, 10))) + self.random.choice((-1, 0, 0, 1))))
+        elif pick < 0.6:
+            self.fill(self.random.choice((0, 0, 1, 1, 1, 2, 3, 8, 9, 27)))
+        elif pick < 0.65:
+            self.fill(self.random.choice((65_537, self.set.rate // 30, self.set.rate // 15)))
+        elif pick < 0.7:
+            self.key()
+        else:
+            for _ in range(self.random.choice((1, 1, 1, 2, 3))):
+                self.queue()
+
+    def fill_the_queue(self):
+        """As many as wait, one more, and again once one of them is being sent."""
+        while len(self.set.waiting) < paper.QUEUE_LIMIT:
+            self.queue()
+        self.queue()
+        for _ in range(3):
+            self.fill(self.to_edge(self.random.choice((0, 1, 9))) + self.random.choice((0, 1, 1)))
+            self.queue()
 
     def scene_in_answering(self):
         """Fills and commands while the set waits for a caller."""
@@ -584,7 +677,7 @@ class Script:
             self.put(b"T,%d,0" % byte)
 
     def whole_call(self, count):
-        """One call of `count` digits until the line is up, in buffers of many lengths."""
+        """One call of `count` digits until the line is up, in buffers of many lengths, and then a frame, where one can be queued, and mark."""
         self.create(self.random.choice(USUAL_RATES) if self.chance(0.2) else self.random.randint(8_000, 192_000))
         self.dial_whole(count)
         for end in paper.stage_ends(count, self.set.rate):
@@ -596,13 +689,16 @@ class Script:
         while self.set.state == DIALLING:
             self.fill(self.random.choice((0, 1, 2, 100)))
         self.fill(1)
+        if self.extended:
+            self.queue()
+        self.fill(self.set.rate // 25)
         return b"\n".join(self.lines) + b"\n"
 
     SCENES = (
         (scene_fresh, 6), (scene_command, 12), (scene_empty_line, 2), (scene_dial, 10), (scene_fill, 10),
         (scene_stage_end, 8), (scene_walk, 3), (scene_line_up, 3), (scene_inner_edge, 5), (scene_escape, 14),
         (scene_carrier, 10), (scene_resume, 5), (scene_hang_up, 4), (scene_huge_lapse, 2), (scene_forced, 4), (scene_long_line, 4), (scene_other_lines, 4), (scene_noise, 5),
-        (scene_extended, 8), (scene_cue, 6), (scene_key, 8), (scene_string, 10), (scene_s12, 6), (scene_bits, 8), (scene_in_connected, 3), (scene_in_answering, 3),
+        (scene_extended, 8), (scene_cue, 6), (scene_key, 8), (scene_string, 10), (scene_s12, 6), (scene_bits, 8), (scene_queue, 6), (scene_sending, 6), (scene_in_connected, 3), (scene_in_answering, 3),
     )
 
     def write(self, count):

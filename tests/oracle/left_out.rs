@@ -14,9 +14,9 @@ pub mod tx {
         pub fn pending(&self) -> bool {
             false
         }
-        /// A fill in Connected is declined before it comes here.
+        /// A fill in Connected is sender.rs's.
         pub fn read(&mut self, _: &mut [f32]) {
-            unreachable!("a fill in Connected was not declined")
+            unreachable!("a fill in Connected came to the Rust")
         }
     }
 }

@@ -15,12 +15,13 @@ pub enum Call {
     ReadBits { room: usize },
     TakeFrame,
     Lit,
+    Queue { byte: u8 },
 }
 
 const WIDEST_OUTBOX: u128 = 16;
 const STRING_ROOM: u128 = 1_200;
 
-/// With `extended`, a T line may give the outbox length, fills may be longer, and there are C, M, S, B, U and K lines.
+/// With `extended`, a T line may give the outbox length, fills may be longer, and there are C, M, S, B, U, K and Q lines.
 pub fn read_line(line: &[u8], extended: bool) -> Option<Call> {
     let mut parts = line.split(|&b| b == b',');
     let letter = parts.next()?;
@@ -44,6 +45,7 @@ pub fn read_line(line: &[u8], extended: bool) -> Option<Call> {
         }
         (b"B", &[room]) if extended && room <= 64 => Some(Call::ReadBits { room: room as usize }),
         (b"U", &[]) if extended => Some(Call::TakeFrame),
+        (b"Q", &[byte]) if extended => Some(Call::Queue { byte: u8::try_from(byte).ok()? }),
         _ => None,
     }
 }

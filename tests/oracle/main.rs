@@ -128,6 +128,7 @@ fn perform(set: &mut Set, kept: &mut Vec<u8>, reader: &mut Reader, call: Call) -
             (Answer::declined(if byte.is_some() { 0 } else { 11 }), Second::Framed(byte))
         }
         Call::Lit => (Answer::default(), Second::Lit(set.lit)),
+        Call::Queue { byte } => (set.queue_byte(byte), Second::Sent),
     })
 }
 

@@ -14,6 +14,7 @@ mod cue;
 mod guard;
 mod left_out;
 mod lit;
+mod sender;
 #[path = "stand_in.rs"]
 mod session;
 mod set;

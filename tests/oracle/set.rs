@@ -1,13 +1,16 @@
 //! What 01's set adds to the Rust: the calls it declines, the count m, and the numbers
 //! for states, stages and replies. And 02's E1: a line that ran over is not dialled; its E6: from the
-//! first S12 line on guard.rs is the AT processor; and its E8: the key of a fill's last sample.
+//! first S12 line on guard.rs is the AT processor; its E8: the key of a fill's last sample; and its E10: in Connected
+//! sender.rs plays, and bytes are queued for it in any state.
 
 use crate::at::{AtProcessor, Response};
 use crate::guard::{Act, Processor, Step};
 use crate::lit::Key;
 use crate::overture::Stage;
 use crate::rust_session::SessionState;
+use crate::sender::Sender;
 use crate::session::Session;
+use std::collections::VecDeque;
 
 pub const LOWEST_RATE: u128 = 8_000;
 pub const HIGHEST_RATE: u128 = 192_000;
@@ -15,6 +18,7 @@ const LINE_LIMIT: usize = 80;
 const OUTBOX_NEEDED: usize = 4;
 const FILL_LIMIT: usize = 65_536;
 const STRING_LIMIT: usize = 256;
+const QUEUE_LIMIT: usize = 256;
 
 /// A call's refusal (0 none) and its codes (0 none).
 #[derive(Default)]
@@ -51,6 +55,9 @@ pub struct Set {
     s12_line_came: bool,
     /// 02's E8: the key that the last fill answered.
     pub lit: Option<Key>,
+    /// 02's E10: the bytes that wait, oldest first, and the sender, fresh when the line goes up.
+    pub waiting: VecDeque<u8>,
+    sender: Sender,
 }
 
 impl Set {
@@ -64,7 +71,8 @@ impl Set {
 
     fn fresh(rate: u32) -> Self {
         let (at, session, guard) = (AtProcessor::new(), Session::new(rate), Processor::new());
-        Set { at, session, line: Vec::new(), m: 0, guard, s12_line_came: false, lit: None }
+        let (waiting, sender) = (VecDeque::new(), Sender::new(rate));
+        Set { at, session, line: Vec::new(), m: 0, guard, s12_line_came: false, lit: None, waiting, sender }
     }
 
     pub fn feed(&mut self, byte: u8, carrier: bool, outbox: usize) -> Answer {
@@ -87,7 +95,7 @@ impl Set {
             self.hand_over_line();
         }
         let reply = self.at.feed(byte, &mut self.session);
-        self.restart_count_if_moved();
+        self.begin_anew_if_moved();
         Answer::replied(reply)
     }
 
@@ -118,7 +126,7 @@ impl Set {
             return self.perform(step);
         }
         let reply = self.at.advance_time(lapse, &mut self.session);
-        self.restart_count_if_moved();
+        self.begin_anew_if_moved();
         Answer::replied(reply)
     }
 
@@ -136,15 +144,29 @@ impl Set {
             return Answer::declined(3);
         }
         if self.session.state() == SessionState::Connected {
-            return Answer::declined(5);
+            self.sender.play(&mut self.waiting, out);
+            return Answer::default();
         }
         if self.session.state() == SessionState::Dialling {
             self.m += out.len() as u64;
         }
         self.session.process_out(out);
+        if self.session.state() == SessionState::Connected {
+            self.sender = Sender::new(self.session.rate);
+        }
         if !out.is_empty() && self.session.stage() == Some(Stage::Dialling) {
             self.lit = self.session.key_at(self.m);
         }
+        Answer::default()
+    }
+
+    /// 02's E10: 12 where 256 wait.
+    pub fn queue_byte(&mut self, byte: u8) -> Answer {
+        self.session.begin_call(false);
+        if self.waiting.len() == QUEUE_LIMIT {
+            return Answer::declined(12);
+        }
+        self.waiting.push_back(byte);
         Answer::default()
     }
 
@@ -196,7 +218,7 @@ impl Set {
             Act::HangUp => self.session.hangup(),
         }
         self.session.send(&step.sent);
-        self.restart_count_if_moved();
+        self.begin_anew_if_moved();
         Answer { refusal: 0, codes: step.codes }
     }
 
@@ -217,10 +239,11 @@ impl Set {
         }
     }
 
-    /// Dial, answer and hang-up set m to 0.
-    fn restart_count_if_moved(&mut self) {
+    /// Dial, answer and hang-up set m to 0 and empty the queue.
+    fn begin_anew_if_moved(&mut self) {
         if self.session.moved {
             self.m = 0;
+            self.waiting.clear();
         }
     }
 }

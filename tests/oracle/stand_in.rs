@@ -15,7 +15,7 @@ pub struct Session {
     pub sent: Vec<u8>,
     /// Whether the call under way dialled, answered or hung up.
     pub moved: bool,
-    rate: u32,
+    pub rate: u32,
     /// What was last dialled, and where its digits begin, once that was asked.
     dialled: String,
     firsts: Option<Vec<u64>>,

@@ -1,5 +1,6 @@
 /* A server whose rate changes during the show, which JACK's dummy driver does not do: the callback is called here. At a rate that no set
- * has, it is silent, says so once, and takes no key; at one that a set has, it plays again, with a fresh set. */
+ * has, it is silent, says so once, and takes no key; at one that a set has, it plays again, with a fresh set. And more typed than the queue
+ * holds: that is said once, and again once there was a place. */
 #define _POSIX_C_SOURCE 200809L
 #include "show.h"
 #include <stdio.h>
@@ -64,6 +65,42 @@ static size_t told(show *s, show_event *event)
     return count;
 }
 
+static void type_many(show *s, int count)
+{
+    for (; count > 0; count--)
+        type(s, "x");
+    process(256, s);
+}
+
+/* How often a full queue is told. */
+static int told_full(show *s)
+{
+    show_event event;
+    int count = 0;
+
+    while (jack_ringbuffer_read(s->events, (char *)&event, sizeof event) == sizeof event)
+        count += event.refusal == GIBBONPLATE_QUEUE_FULL;
+    return count;
+}
+
+static void full_queue(show *s)
+{
+    type(s, "ATDT1\r");
+    type_many(s, 256);
+    expect(told_full(s) == 0, "256 bytes have no place");
+    type_many(s, 40);
+    type_many(s, 1);
+    expect(told_full(s) == 1, "a full queue is not said once");
+    while (gibbonplate_state(&s->set) == GIBBONPLATE_DIALLING)
+        process(256, s);
+    expect(sounding(s) > 2000, "nothing is heard once the line is up");
+    expect(told_full(s) == 0, "a full queue is said again");
+    type_many(s, 1);
+    expect(told_full(s) == 0, "there is no place once a byte is heard");
+    type_many(s, 40);
+    expect(told_full(s) == 1, "a queue that is full again is not said");
+}
+
 int main(void)
 {
     static const uint32_t none[] = {384000, 192001, 7999, 0};
@@ -89,5 +126,6 @@ int main(void)
         expect(told(&s, &event) == 1 && event.fresh && !event.refusal && event.rate == 44100, "no fresh set");
         expect(gibbonplate_rate(&event.set) == 44100, "a fresh set has another rate");
     }
+    full_queue(&s);
     return 0;
 }

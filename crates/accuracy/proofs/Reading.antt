@@ -15,7 +15,7 @@ use Rattle.math.specs.Narrow.{narrowed}
 use Rattle.tones.specs.Samples.{toneGain}
 use Rattle.overture.specs.declared.Filled as overture
 use Rattle.overture.specs.Iteration.{fresh, samples}
-use Rattle.session.specs.declared.SessionState.the-variants.{Dialling}
+use Rattle.session.specs.declared.SessionState.the-variants.{Dialling, Connected}
 use Rattle.set.specs.declared.Set.{Set}
 use Rattle.set.specs.declared.Filled.{Filled}
 use Rattle.set.specs.Refusals.{accepted}
@@ -71,7 +71,10 @@ module _ (s : Set) (κs : Lfts 1) (out : RefT (List Float)) (left : List Float) 
   is-the-buffer = d .1 .0
 
   pub filled-in-level : s .session .state ≡ Dialling → accepted (answer .refusal) ≡ true → AllInLevel left
-  filled-in-level = d .1 .1
+  filled-in-level = d .1 .1 .0
+
+  pub sent-in-level : s .session .state ≡ Connected → accepted (answer .refusal) ≡ true → AllInLevel left
+  sent-in-level = d .1 .1 .1
 
 -- 0.92 is no 32-bit number: the greatest below it keeps the level, the next one does not, and so with their signs
 pub level-ends : InLevel (ofBits binary32 0x3f6b_851e) × InLevel (ofBits binary32 0xbf6b_851e)

@@ -13,7 +13,7 @@ ghost use Rattle.math.specs.Sine.{sine};
 ghost use Rattle.math.specs.Narrow.{narrowed};
 ghost use Rattle.tones.specs.Samples.{toneGain};
 ghost use Rattle.overture.specs.Iteration.{fresh, after, samples, shownAfter};
-ghost use Rattle.session.specs.declared.SessionState.the-variants.{Dialling};
+ghost use Rattle.session.specs.declared.SessionState.the-variants.{Dialling, Connected};
 ghost use Rattle.set.specs.Refusals.{accepted};
 ghost use Rattle.set.specs.Set.{fill, buffer};
 ghost use Rattle.accuracy.specs.Taylor.{NearSine};
@@ -50,11 +50,13 @@ pub fn read_fresh(digits: &[u8], rate: u32, out: &mut [f32]) -> overture::Filled
     overture::read(state, digits, rate, out)
 }
 
-// A set's fill. In Dialling, unless it is declined, each sample that it leaves lies between -0.92 and 0.92, whatever else the set holds.
+// A set's fill. In Dialling and in Connected, unless it is declined, each sample that it leaves lies between -0.92 and 0.92, whatever else
+// the set holds.
 pub fn process_out(set: Set, out: &mut [f32]) -> Filled
     ensures { λ r. ⌜ r ≡ fill set (length (now (out .entry))) ⌝ }
     ensures { λ _. ⌜ now (out .exit) ≡ buffer set (now (out .entry)) ⌝ }
     ensures { λ r. ⌜ (set .session .state ≡ Dialling → accepted (r .refusal) ≡ true → AllInLevel (now (out .exit))) ⌝ }
+    ensures { λ r. ⌜ (set .session .state ≡ Connected → accepted (r .refusal) ≡ true → AllInLevel (now (out .exit))) ⌝ }
 {
     set.process_out(out)
 }

@@ -12,10 +12,10 @@ use Rattle.ascii.specs.Front.{putIf, put, putLengthIf, putLength}
 use Rattle.reply.specs.Texts.{textOf}
 use Rattle.nco.specs.Lent.{lentSample, lentNco}
 use Rattle.set.specs.declared.Set.{Set}
-use Rattle.set.proofs.Answers.{new-answers, feed-answers, feed-all-answers, advance-time-answers, force-data-mode-answers, process-out-answers, ring-number-answers}
+use Rattle.set.proofs.Answers.{new-answers, feed-answers, feed-all-answers, advance-time-answers, force-data-mode-answers, process-out-answers, queue-byte-answers, ring-number-answers}
 use Rattle.cue.proofs.Answers.{cue-answers}
 use Rattle.set.specs.declared.Refusal.{Refusal}
-use Rattle.set.specs.declared.Refusal.the-variants.{Accepted, Rate, Outbox, Length, Connected, Unsound, StringLength, StringRoom}
+use Rattle.set.specs.declared.Refusal.the-variants.{Accepted, Rate, Outbox, Length, Unsound, StringLength, StringRoom, QueueFull}
 use Rattle.set.specs.Refusals.{refusalNumber}
 use Rattle.cue.specs.declared.Refusal as cueRefusal
 use Rattle.cue.specs.declared.Refusal.the-variants as cue
@@ -41,20 +41,24 @@ writer-answers code s12 κs out left n d =
     let wrote : left ≡ put (textOf code s12) (now out) = d .1 in
     (told, λ nothing. wrote ∙ nothing-written (textOf code s12) (now out) (sym told ∙ nothing))
 
-never-4 : (refusal : Refusal) → refusalNumber refusal ≡ 4 → ⊥
-never-4 Accepted e = omega arith
-never-4 Rate e = omega arith
-never-4 Outbox e = omega arith
-never-4 Length e = omega arith
-never-4 Connected e = omega arith
-never-4 Unsound e = omega arith
-never-4 StringLength e = omega arith
-never-4 StringRoom e = omega arith
+-- 02, E1 and E10: the numbers that are given no more
+abbrev Never : ℕ → Type 0
+Never n = (n ≡ 4 → ⊥) × (n ≡ 5 → ⊥)
 
-cue-never-4 : (refusal : cueRefusal.Refusal) → cueRefusalNumber refusal ≡ 4 → ⊥
-cue-never-4 cue.Accepted e = omega arith
-cue-never-4 cue.Unsound e = omega arith
-cue-never-4 cue.Position e = omega arith
+never : (refusal : Refusal) → Never (refusalNumber refusal)
+never Accepted = (λ e. omega arith, λ e. omega arith)
+never Rate = (λ e. omega arith, λ e. omega arith)
+never Outbox = (λ e. omega arith, λ e. omega arith)
+never Length = (λ e. omega arith, λ e. omega arith)
+never Unsound = (λ e. omega arith, λ e. omega arith)
+never StringLength = (λ e. omega arith, λ e. omega arith)
+never StringRoom = (λ e. omega arith, λ e. omega arith)
+never QueueFull = (λ e. omega arith, λ e. omega arith)
+
+cue-never : (refusal : cueRefusal.Refusal) → Never (cueRefusalNumber refusal)
+cue-never cue.Accepted = (λ e. omega arith, λ e. omega arith)
+cue-never cue.Unsound = (λ e. omega arith, λ e. omega arith)
+cue-never cue.Position = (λ e. omega arith, λ e. omega arith)
 
 pub answers : (s : Set) → Answers s
 unfolding lentSample lentNco
@@ -66,9 +70,11 @@ answers s =
       time = λ ns carrier. (tt, advance-time-answers s ns carrier);
       forcing = (tt, force-data-mode-answers s);
       filling = λ κs out. (tt, process-out-answers s κs out);
+      queuing = λ byte. (tt, queue-byte-answers s byte);
       ring = (tt, ring-number-answers s);
       cue = λ p. (tt, cue-answers s p);
-      never4 = (never-4, cue-never-4);
+      never4 = (λ refusal. never refusal .0, λ refusal. cue-never refusal .0);
+      never5 = (λ refusal. never refusal .1, λ refusal. cue-never refusal .1);
       writer = λ code s12 κs out. (tt, writer-answers code s12 κs out);
       oscillator = λ nco outside. (rw outside, rw outside);
     }

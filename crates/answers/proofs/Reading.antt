@@ -24,11 +24,12 @@ use Rattle.set.specs.declared.TypedAll.{TypedAll}
 use Rattle.set.specs.declared.Lapsed.{Lapsed}
 use Rattle.set.specs.declared.Forced.{Forced}
 use Rattle.set.specs.declared.Filled.{Filled}
+use Rattle.set.specs.declared.Queued.{Queued}
 use Rattle.set.specs.declared.Rung.{Rung}
 use Rattle.set.specs.Refusals.{refusalNumber, Declined}
-use Rattle.set.specs.Set.{freshSet, creationCause, typingCause, lapseCause, forcedCause, fillCause, ringCause}
+use Rattle.set.specs.Set.{freshSet, creationCause, typingCause, lapseCause, forcedCause, fillCause, queuingCause, ringCause}
 use Rattle.set.specs.String.{stringCause}
-use Rattle.set.specs.Event.{typedEvent, lapsedEvent, forcedEvent, filledEvent, Event, Unchanged, ByCause, stringEvent, StringEvent, StringUnchanged, StringByCause}
+use Rattle.set.specs.Event.{typedEvent, lapsedEvent, forcedEvent, filledEvent, queuedEvent, Event, Unchanged, ByCause, stringEvent, StringEvent, StringUnchanged, StringByCause}
 use Rattle.cue.specs.declared.Cued.{Cued}
 use Rattle.cue.specs.declared.Refusal as cueRefusal
 use Rattle.cue.specs.Cue.{cueRefusalNumber, cueCause}
@@ -38,6 +39,7 @@ use Rattle.set.proofs.Set.feed_all.Reads as feed-all
 use Rattle.set.proofs.Set.advance_time.Reads as advance-time
 use Rattle.set.proofs.Set.force_data_mode.Reads as force-data-mode
 use Rattle.set.proofs.Set.process_out.Reads as process-out
+use Rattle.set.proofs.Set.queue_byte.Reads as queue-byte
 use Rattle.set.proofs.Set.ring_number.Reads as ring-number
 use Rattle.cue.proofs.cue.Reads as cue
 use Rattle.reply.proofs.write_reply.Reads as write-reply
@@ -136,6 +138,11 @@ module _ (s : Set) (r : Bool) (d : is-sound.Learnt tt (s, tt) r (s, tt)) where
       → ByCause s (fillCause s (length (now out))) (filledEvent (now out) left answer))
   filling-answers = told .filling
 
+  pub queuing-answers : (byte : ℕ)
+      → queue-byte.Asked tt (s, (byte, tt))
+      × ((answer : Queued) → queue-byte.Learnt tt (s, (byte, tt)) answer (s, (byte, tt)) → ByCause s (queuingCause s) (queuedEvent byte answer))
+  queuing-answers = told .queuing
+
   pub ring-answers :
       ring-number.Asked tt (s, tt)
       × ((answer : Rung) → ring-number.Learnt tt (s, tt) answer (s, tt)
@@ -150,6 +157,9 @@ module _ (s : Set) (r : Bool) (d : is-sound.Learnt tt (s, tt) r (s, tt)) where
 
   pub never-4 : ((refusal : Refusal) → refusalNumber refusal ≡ 4 → ⊥) × ((refusal : cueRefusal.Refusal) → cueRefusalNumber refusal ≡ 4 → ⊥)
   never-4 = told .never4
+
+  pub never-5 : ((refusal : Refusal) → refusalNumber refusal ≡ 5 → ⊥) × ((refusal : cueRefusal.Refusal) → cueRefusalNumber refusal ≡ 5 → ⊥)
+  never-5 = told .never5
 
   pub writer-answers : (code s12 : ℕ) (κs : Lfts 1) (out : RefT (List ℕ))
       → write-reply.Asked κs (code, (s12, (out, tt)))

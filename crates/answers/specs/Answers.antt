@@ -23,12 +23,13 @@ use Rattle.set.specs.declared.TypedAll.{TypedAll}
 use Rattle.set.specs.declared.Lapsed.{Lapsed}
 use Rattle.set.specs.declared.Forced.{Forced}
 use Rattle.set.specs.declared.Filled.{Filled}
+use Rattle.set.specs.declared.Queued.{Queued}
 use Rattle.set.specs.declared.Rung.{Rung}
 use Rattle.set.specs.declared.Refusal.{Refusal}
 use Rattle.set.specs.Refusals.{refusalNumber, Declined}
-use Rattle.set.specs.Set.{freshSet, creationCause, typingCause, lapseCause, forcedCause, fillCause, ringCause}
+use Rattle.set.specs.Set.{freshSet, creationCause, typingCause, lapseCause, forcedCause, fillCause, queuingCause, ringCause}
 use Rattle.set.specs.String.{stringCause}
-use Rattle.set.specs.Event.{typedEvent, lapsedEvent, forcedEvent, filledEvent, ByCause, stringEvent, StringByCause}
+use Rattle.set.specs.Event.{typedEvent, lapsedEvent, forcedEvent, filledEvent, queuedEvent, ByCause, stringEvent, StringByCause}
 use Rattle.cue.specs.declared.Cued.{Cued}
 use Rattle.cue.specs.declared.Refusal as cueRefusal
 use Rattle.cue.specs.Cue.{cueRefusalNumber, cueCause}
@@ -38,6 +39,7 @@ use Rattle.set.proofs.Set.feed_all.Reads as feed-all
 use Rattle.set.proofs.Set.advance_time.Reads as advance-time
 use Rattle.set.proofs.Set.force_data_mode.Reads as force-data-mode
 use Rattle.set.proofs.Set.process_out.Reads as process-out
+use Rattle.set.proofs.Set.queue_byte.Reads as queue-byte
 use Rattle.set.proofs.Set.ring_number.Reads as ring-number
 use Rattle.cue.proofs.cue.Reads as cue
 use Rattle.reply.proofs.write_reply.Reads as write-reply
@@ -71,6 +73,10 @@ pub record Answers (s : Set) : Type 0 where
       → process-out.Asked κs (s, (out, tt))
       × ((left : List Float) (answer : Filled) → process-out.Learnt κs (s, (out, tt)) answer (s, (at-last out left, tt))
       → ByCause s (fillCause s (length (now out))) (filledEvent (now out) left answer))
+  -- 02, E10: a byte that is queued
+  pub queuing : (byte : ℕ)
+      → queue-byte.Asked tt (s, (byte, tt))
+      × ((answer : Queued) → queue-byte.Learnt tt (s, (byte, tt)) answer (s, (byte, tt)) → ByCause s (queuingCause s) (queuedEvent byte answer))
   -- a refused ring or cue is 0; 02, E8: and has no key
   pub ring :
       ring-number.Asked tt (s, tt)
@@ -82,6 +88,8 @@ pub record Answers (s : Set) : Type 0 where
       → (answer .refusal ≡ cueCause s p) × ((cueRefusalNumber (answer .refusal) ≡ 0 → ⊥) → (answer .sample ≡ 0) × (answer .key ≡ lit.None)))
   -- 02, E1: number 4 never occurs: no refusal has it, so that no call on any set answers it
   pub never4 : ((refusal : Refusal) → refusalNumber refusal ≡ 4 → ⊥) × ((refusal : cueRefusal.Refusal) → cueRefusalNumber refusal ≡ 4 → ⊥)
+  -- 02, E10: nor does number 5
+  pub never5 : ((refusal : Refusal) → refusalNumber refusal ≡ 5 → ⊥) × ((refusal : cueRefusal.Refusal) → cueRefusalNumber refusal ≡ 5 → ⊥)
   -- the writer of replies: where it writes nothing the buffer keeps its contents
   pub writer : (code s12 : ℕ) (κs : Lfts 1) (out : RefT (List ℕ))
       → write-reply.Asked κs (code, (s12, (out, tt)))

@@ -94,6 +94,46 @@ pub extern "C" fn bench_fills(
     m
 }
 
+// The set with all 256 places of its queue taken.
+fn queued(set: Set) -> Set {
+    let mut s = set;
+    let mut i: usize = 0;
+    while i < 256 {
+        let q = s.queue_byte(b'U');
+        let next = q.set;
+        s = next;
+        i += 1;
+    }
+    s
+}
+
+fn waiting(set: Set) -> u64 {
+    let sending = set.sending;
+    let queue = sending.queue;
+    queue.len as u64
+}
+
+// As `bench_fills`, with 256 bytes queued; answers how many wait after the last.
+#[no_mangle]
+pub extern "C" fn bench_sent(
+    rate: u32,
+    digits: &[u8],
+    skip: usize,
+    part: usize,
+    turns: u64,
+    out: &mut [f32],
+) -> u64 {
+    let set = queued(played(rate, digits, skip));
+    let mut left: u64 = 0;
+    let mut i: u64 = 0;
+    while i < turns {
+        let s = filled(set, part, out);
+        left = waiting(s);
+        i += 1;
+    }
+    left
+}
+
 fn filled_empty(set: Set) -> Set {
     let mut none = [0.0f32; 1];
     let from: usize = 0;

@@ -6,19 +6,19 @@ use set::Set;
 ghost use Rattle.libc.specs.Io.{Ended};
 
 // Writes a call, and answers whether it stands in its place.
-pub fn write(path: &[u8], set: Set, total: u32, samples: &mut [f32]) -> bool {
+pub fn write(path: &[u8], set: Set, message: &[u8], total: u32, samples: &mut [f32]) -> bool {
     if is_link(path) {
-        return write_into(os::open_overwrite(path), path, set, total, samples);
+        return write_into(os::open_overwrite(path), path, set, message, total, samples);
     }
     let file = os::open_append(path);
     if file < 0 {
-        return write_missing(os::errno(), path, set, total, samples);
+        return write_missing(os::errno(), path, set, message, total, samples);
     }
     if is_regular(file) {
         libc::close(file);
-        return write_beside(path, set, total, samples);
+        return write_beside(path, set, message, total, samples);
     }
-    write_into(file, path, set, total, samples)
+    write_into(file, path, set, message, total, samples)
 }
 
 // Whether the path names a symbolic link.
@@ -44,20 +44,34 @@ fn is_regular(file: i32) -> bool {
 }
 
 // A path that cannot be opened: that of a file to be made, or none.
-fn write_missing(error: i32, path: &[u8], set: Set, total: u32, samples: &mut [f32]) -> bool {
+fn write_missing(
+    error: i32,
+    path: &[u8],
+    set: Set,
+    message: &[u8],
+    total: u32,
+    samples: &mut [f32],
+) -> bool {
     if (error == libc::ENOENT) & (path.len() > 0) {
-        return write_beside(path, set, total, samples);
+        return write_beside(path, set, message, total, samples);
     }
     words::cannot_write(path);
     false
 }
 
-fn write_into(file: i32, path: &[u8], set: Set, total: u32, samples: &mut [f32]) -> bool {
+fn write_into(
+    file: i32,
+    path: &[u8],
+    set: Set,
+    message: &[u8],
+    total: u32,
+    samples: &mut [f32],
+) -> bool {
     if file < 0 {
         words::cannot_write(path);
         return false;
     }
-    if play::record(file, set, total, samples) {
+    if play::record(file, set, message, total, samples) {
         libc::close(file);
         return true;
     }
@@ -66,23 +80,30 @@ fn write_into(file: i32, path: &[u8], set: Set, total: u32, samples: &mut [f32])
     false
 }
 
-fn write_beside(path: &[u8], set: Set, total: u32, samples: &mut [f32]) -> bool {
+fn write_beside(path: &[u8], set: Set, message: &[u8], total: u32, samples: &mut [f32]) -> bool {
     let mut part = [0u8; 4104];
     let mut k = text::put(&mut part, 0, path);
     k = text::put(&mut part, k, b".part");
     if k <= part.len() {
-        return write_part(&part[..k], path, set, total, samples);
+        return write_part(&part[..k], path, set, message, total, samples);
     }
     false
 }
 
-fn write_part(part: &[u8], path: &[u8], set: Set, total: u32, samples: &mut [f32]) -> bool {
+fn write_part(
+    part: &[u8],
+    path: &[u8],
+    set: Set,
+    message: &[u8],
+    total: u32,
+    samples: &mut [f32],
+) -> bool {
     let file = os::create(part);
     if file < 0 {
         words::cannot_write_first(part);
         return false;
     }
-    if write_whole(file, set, total, samples) && os::rename(part, path) == 0 {
+    if write_whole(file, set, message, total, samples) && os::rename(part, path) == 0 {
         return true;
     }
     words::cannot_write(path);
@@ -91,8 +112,8 @@ fn write_part(part: &[u8], path: &[u8], set: Set, total: u32, samples: &mut [f32
 }
 
 // A disk may find out only when all is to be on it that it has no room.
-fn write_whole(file: i32, set: Set, total: u32, samples: &mut [f32]) -> bool {
-    let good = play::record(file, set, total, samples) && libc::fsync(file) == 0;
+fn write_whole(file: i32, set: Set, message: &[u8], total: u32, samples: &mut [f32]) -> bool {
+    let good = play::record(file, set, message, total, samples) && libc::fsync(file) == 0;
     libc::close(file);
     good
 }

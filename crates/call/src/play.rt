@@ -1,4 +1,6 @@
 // The call itself: the dial line typed, and the fills, written as the samples of a WAV file.
+use crate::talk;
+use crate::talk::Talk;
 use set::Set;
 ghost use Prim.Native.Nat.{_≤_};
 
@@ -24,7 +26,7 @@ const LENGTHS: [usize; 16] = [
 
 // A recording under way.
 struct Recording {
-    set: Set,
+    talk: Talk,
     // samples that are still to be written
     left: u32,
     // every write so far has gone well
@@ -67,38 +69,44 @@ pub fn is_dialling(set: Set) -> bool {
 
 // Makes the fills from the dial line on, and writes their first `total` samples to a file, behind the
 // header.
-pub fn record(file: i32, set: Set, total: u32, samples: &mut [f32]) -> bool {
+pub fn record(file: i32, set: Set, message: &[u8], total: u32, samples: &mut [f32]) -> bool {
     let mut bytes = [0u8; 16384];
     let header = samples::wav::header(total, set.rate());
     let good = io::write_all(file, &header);
     let recording = Recording {
-        set,
+        talk: talk::silent(set),
         left: total,
         good,
     };
-    let end = record_all(file, recording, samples, &mut bytes);
+    let end = record_all(file, recording, message, samples, &mut bytes);
     end.good
 }
 
 // A proved loop has to end: no call has as many fills as this one allows.
-fn record_all(file: i32, recording: Recording, samples: &mut [f32], bytes: &mut [u8]) -> Recording {
+fn record_all(
+    file: i32,
+    recording: Recording,
+    message: &[u8],
+    samples: &mut [f32],
+    bytes: &mut [u8],
+) -> Recording {
     let mut r = recording;
     let mut fill: u32 = 0;
     while fill < u32::MAX && goes_on(r) {
-        r = record_fill(file, r, length(fill), samples, bytes);
+        r = record_fill(file, r, message, length(fill), samples, bytes);
         fill += 1;
     }
     r
 }
 
 fn goes_on(recording: Recording) -> bool {
-    let set = recording.set;
-    recording.good & is_dialling(set)
+    recording.good & (recording.left > 0)
 }
 
 fn record_fill(
     file: i32,
     recording: Recording,
+    message: &[u8],
     n: usize,
     samples: &mut [f32],
     bytes: &mut [u8],
@@ -107,25 +115,25 @@ fn record_fill(
     if n > samples.len() {
         return recording;
     }
-    record_part(file, recording, &mut samples[none..n], bytes)
+    record_part(file, recording, message, &mut samples[none..n], bytes)
 }
 
-// Samples past the overture are not written.
+// Samples past the total are not written.
 fn record_part(
     file: i32,
     recording: Recording,
+    message: &[u8],
     samples: &mut [f32],
     bytes: &mut [u8],
 ) -> Recording {
     let none: usize = 0;
-    let set = recording.set;
+    let before = recording.talk;
     let left = recording.left;
-    let filled = set.process_out(samples);
-    let next = filled.set;
+    let talk = talk::fill(before, message, samples);
     let kept = at_most(samples.len(), left);
     let good = write(file, &samples[none..kept as usize], bytes);
     Recording {
-        set: next,
+        talk,
         left: left - kept,
         good,
     }

@@ -2,15 +2,24 @@
 use crate::play;
 use set::Set;
 
+// The set whose line is up, and how many fills it took.
+pub struct Up {
+    pub set: Set,
+    pub fills: u32,
+}
+
 // Makes the fills until the line is up, and notes the first sample of each stage at its number.
-pub fn find_all(set: Set, samples: &mut [f32], firsts: &mut [u32]) -> Set {
+pub fn find_all(set: Set, samples: &mut [f32], firsts: &mut [u32]) -> Up {
     let mut s = set;
     let mut fill: u32 = 0;
     while fill < u32::MAX && play::is_dialling(s) {
         s = find_in(s, play::length(fill), samples, firsts);
         fill += 1;
     }
-    s
+    Up {
+        set: s,
+        fills: fill,
+    }
 }
 
 // An empty fill shows the stage of the sample after it, so what is searched is one sample at least.

@@ -1,9 +1,10 @@
-// What is printed of a call: a line for each stage and for each digit, its length T, and when the line was up.
+// What is printed of a call: a line for each stage and for each digit, its length T, when the line was up, and
+// when a text was sent.
 use crate::play;
 use keys::Lit;
 use set::Set;
 
-pub fn print(firsts: &[u32; 11], dialled: Set, up: u32) {
+pub fn print(firsts: &[u32; 11], dialled: Set, up: u32, sent: u32) {
     let mut page = [0u8; 8192];
     let rate = dialled.rate();
     let mut k = text::put(
@@ -14,6 +15,7 @@ pub fn print(firsts: &[u32; 11], dialled: Set, up: u32) {
     k = put_stages(&mut page, k, firsts, rate);
     k = put_digits(&mut page, k, dialled);
     k = put_end(&mut page, k, between(1, firsts[10]), rate, up);
+    k = put_sent(&mut page, k, up, sent, rate);
     if console::stream::flush(&page, k) {
         return;
     }
@@ -155,4 +157,17 @@ fn put_end(page: &mut [u8], at: usize, total: u32, rate: u32, up: u32) -> usize 
     k = text::put(page, k, b" seconds\nthe line was up at sample ");
     k = text::put_decimal(page, k, up as u64);
     text::put_byte(page, k, b'\n')
+}
+
+// The last sample of the fill in which the text's last frame ended, of a call that has one.
+fn put_sent(page: &mut [u8], at: usize, up: u32, sent: u32, rate: u32) -> usize {
+    if sent == 0 {
+        return at;
+    }
+    let last = std::num::wrapping_add_u32(up, sent);
+    let mut k = text::put(page, at, b"TEXT was sent by sample ");
+    k = text::put_decimal(page, k, last as u64);
+    k = text::put(page, k, b", ");
+    k = text::put_seconds(page, k, last, rate);
+    text::put(page, k, b" seconds\n")
 }

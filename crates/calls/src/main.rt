@@ -1,5 +1,6 @@
 // The calls that no other program makes: the writer of replies, the digits' reader, the length of a call
-// before the call, the lent oscillator, and every call on sets that are not sound; the cue, and strings.
+// before the call, the lent oscillator, and every call on sets that are not sound; the cue, strings, and
+// what is sent.
 // Buffers are dots, or samples of 1.23, before each call, and are printed whole after it.
 mod lent;
 mod plans;
@@ -12,6 +13,7 @@ fn main() {
     cues();
     declined();
     strings();
+    senders();
     plans::plans();
     lent::oscillators();
     unsound::processors();
@@ -21,6 +23,7 @@ fn main() {
     unsound::counts();
     unsound::most_bits();
     unsound::ends();
+    unsound::senders();
 }
 
 // Each code in a buffer with room for all, then one byte short.
@@ -83,6 +86,17 @@ fn strings() {
         0,
         0,
     );
+}
+
+// Fills in Connected, as the set is and with one byte more queued.
+fn senders() {
+    tried::sender(b"nothing waits", sets::waiting(0));
+    tried::sender(b"one waits", sets::waiting(1));
+    tried::sender(b"256 wait", sets::waiting(256));
+    tried::sender(b"one waits, and no edge", sets::begun(0, false));
+    tried::sender(b"first bit begun", sets::begun(1, true));
+    tried::sender(b"first bit begun, and no edge", sets::begun(1, false));
+    tried::sender(b"last bit begun", sets::begun(10, true));
 }
 
 // The calls of sound sets that are declined.

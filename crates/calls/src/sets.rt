@@ -5,6 +5,9 @@ use fsk::FskChannel;
 use fsk::Modulator;
 use keys::Digits;
 use nco::Nco;
+use queue::Queue;
+use sender::Sender;
+use sender::Sending;
 use session::Session;
 use session::SessionState;
 use set::Set;
@@ -101,6 +104,48 @@ pub fn connected() -> Set {
     with_session(Session {
         state: SessionState::Connected,
         ..s
+    })
+}
+
+fn with_sending(sending: Sending) -> Set {
+    let set = connected();
+    Set { sending, ..set }
+}
+
+// Connected, and so many bytes W waiting.
+pub fn waiting(len: usize) -> Set {
+    let bytes = [b'W'; 256];
+    with_sending(Sending {
+        sender: Sender::new(8000),
+        queue: Queue { bytes, len },
+    })
+}
+
+fn with_sender(sender: Sender) -> Set {
+    let bytes = [b'W'; 256];
+    with_sending(Sending {
+        sender,
+        queue: Queue { bytes, len: 1 },
+    })
+}
+
+// Connected, a byte W waiting, and so many bits of the frame of S begun, before an edge or not.
+pub fn begun(begun: u8, edge: bool) -> Set {
+    let sender = Sender::new(8000);
+    with_sender(Sender {
+        byte: b'S',
+        begun,
+        edge,
+        ..sender
+    })
+}
+
+pub fn sender(nco: Nco, phase: f64, step: f64) -> Set {
+    let sender = Sender::new(8000);
+    let modulator = Modulator { nco, phase, step };
+    with_sender(Sender {
+        modulator,
+        ..sender
     })
 }
 

@@ -11,6 +11,7 @@ pub fn calls(name: &[u8], set: Set) {
     k = put_string(&mut page, k, set, b"1\n", 16, 8);
     k = put_time(&mut page, k, set);
     k = put_forced(&mut page, k, set);
+    k = put_queued(&mut page, k, set);
     k = put_filled(&mut page, k, set);
     k = put_readers(&mut page, k, set);
     k = put_number(&mut page, k, b" s12 ", set.s12() as u64);
@@ -82,6 +83,41 @@ pub(crate) fn string(name: &[u8], set: Set, string: &[u8], n: usize, m: usize)
     let mut k = text::put(&mut page, 0, name);
     k = put_string(&mut page, k, set, string, n, m);
     end(&mut page, k);
+}
+
+// A fill of two samples, and what the sender and the bytes that wait have become.
+pub fn sender(name: &[u8], set: Set) {
+    let mut page = [0u8; 256];
+    let answer = set.queue_byte(b'Q');
+    let queued = answer.set;
+    let mut k = text::put(&mut page, 0, name);
+    k = put_sending(&mut page, k, set);
+    k = text::put(&mut page, k, b", Q queued:");
+    k = put_sending(&mut page, k, queued);
+    end(&mut page, k);
+}
+
+fn put_sending(page: &mut [u8], at: usize, set: Set) -> usize {
+    let mut samples = [1.23f32; 2];
+    let answer = set.process_out(&mut samples);
+    let after = answer.set;
+    let mut k = put_bits(page, at, samples::bits(samples[0]) as u64, 8);
+    k = put_bits(page, k, samples::bits(samples[1]) as u64, 8);
+    k = put_number(page, k, b" m ", after.m() as u64);
+    k = put_waiting(page, k, after);
+    put_frame(page, k, after)
+}
+
+// The byte that the sender has, how many bits of its frame are begun, and whether an edge is next.
+fn put_frame(page: &mut [u8], at: usize, set: Set) -> usize {
+    let sending = set.sending;
+    let sender = sending.sender;
+    let mut k = put_bits(page, at, wide(sender.byte), 2);
+    k = put_number(page, k, b" begun ", wide(sender.begun));
+    if sender.edge {
+        k = text::put(page, k, b" edge");
+    }
+    k
 }
 
 // A fill of 65,537 samples: the hash is that of the buffer as it was.
@@ -158,6 +194,25 @@ fn put_forced(page: &mut [u8], at: usize, set: Set) -> usize {
     let answer = set.force_data_mode();
     let refusal = answer.refusal;
     put_number(page, at, b" forced ", refusal.number() as u64)
+}
+
+fn put_queued(page: &mut [u8], at: usize, set: Set) -> usize {
+    let answer = set.queue_byte(b'Q');
+    let refusal = answer.refusal;
+    let after = answer.set;
+    let k = put_number(page, at, b" queued ", refusal.number() as u64);
+    put_waiting(page, k, after)
+}
+
+// How many bytes wait, and what the first two places and the last hold.
+fn put_waiting(page: &mut [u8], at: usize, set: Set) -> usize {
+    let sending = set.sending;
+    let queue = sending.queue;
+    let bytes = queue.bytes;
+    let mut k = put_number(page, at, b" waiting ", queue.len as u64);
+    k = put_bits(page, k, wide(bytes[0]), 2);
+    k = text::put_hex(page, k, wide(bytes[1]), 2);
+    text::put_hex(page, k, wide(bytes[255]), 2)
 }
 
 fn put_filled(page: &mut [u8], at: usize, set: Set) -> usize {

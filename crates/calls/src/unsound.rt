@@ -2,6 +2,7 @@
 use crate::sets;
 use crate::tried;
 use math::TAU;
+use nco::Nco;
 use stage::StageState;
 
 pub fn processors() {
@@ -124,4 +125,33 @@ fn in_ringback(n: u32, ring: u8) -> set::Set {
     let a = sets::tone();
     let b = sets::tone();
     sets::stage(StageState::Ringback { a, b, n, ring })
+}
+
+// 02, E10: more than 256 waiting, a sender out of 01's ranges, and more than a frame's ten bits.
+pub fn senders() {
+    let mark = Nco::new(1270.0, 8000.0);
+    let step = schedule::symbol_step(8000);
+    tried::calls(b"255 waiting", sets::waiting(255));
+    tried::calls(b"256 waiting", sets::waiting(256));
+    tried::calls(b"257 waiting", sets::waiting(257));
+    tried::calls(b"10 bits begun", sets::begun(10, true));
+    tried::calls(b"11 bits begun", sets::begun(11, true));
+    tried::calls(b"sender", sets::sender(mark, 0.0, step));
+    tried::calls(b"sender at symbol phase 1", sets::sender(mark, 1.0, step));
+    tried::calls(
+        b"sender with another symbol step",
+        sets::sender(mark, 0.0, 0.5),
+    );
+    tried::calls(
+        b"sender's phase TAU",
+        sets::sender(Nco { phase: TAU, ..mark }, 0.0, step),
+    );
+    tried::calls(
+        b"sender's step below 0",
+        sets::sender(Nco { step: -0.5, ..mark }, 0.0, step),
+    );
+    tried::calls(
+        b"sender at 8001",
+        sets::sender(Nco::new(1270.0, 8001.0), 0.0, step),
+    );
 }

@@ -12,11 +12,12 @@ use Rattle.set.specs.declared.Typed.{Typed}
 use Rattle.set.specs.declared.Lapsed.{Lapsed}
 use Rattle.set.specs.declared.Forced.{Forced}
 use Rattle.set.specs.declared.Filled.{Filled}
+use Rattle.set.specs.declared.Queued.{Queued}
 use Rattle.set.specs.Set as set
 use Rattle.set.specs.Before.{typedBefore}
-use Rattle.set.specs.Event.{Event, lapsedEvent, forcedEvent}
-use Rattle.set.proofs.Before.{typed-as-before, outbox-as-before, lapsed-as-before, typed-keeps-s12, lapsed-keeps-s12, forced-keeps-s12, fill-keeps-s12}
-use Rattle.claim.specs.Trace.{Did, typed, lapsed, forced, filled, Trace}
+use Rattle.set.specs.Event.{Event, lapsedEvent, forcedEvent, queuedEvent}
+use Rattle.set.proofs.Before.{typed-as-before, outbox-as-before, lapsed-as-before, typed-keeps-s12, lapsed-keeps-s12, forced-keeps-s12, fill-keeps-s12, queued-keeps-s12}
+use Rattle.claim.specs.Trace.{Did, typed, lapsed, forced, filled, queued, Trace}
 use Rattle.claim.specs.Strings.{allSingles}
 use Rattle.claim.specs.Before.{endsS12, NoS12Line, before, AsBefore, AllAsBefore, Unset}
 use Rattle.claim.proofs.Strings.{claim}
@@ -46,6 +47,9 @@ one s f e (filled κs out left answer asked learnt) none =
       answer = rw (← told, ← wrote);
       s12 = ap (λ (a : Filled). set.s12Of (a .set)) told ∙ fill-keeps-s12 s (length (now out)) ∙ f;
     }
+one s f e (queued byte answer asked learnt) none =
+    let told : answer ≡ set.byteQueued s byte = learnt in
+    record { answer = ap (queuedEvent byte) told; s12 = ap (λ (a : Queued). set.s12Of (a .set)) told ∙ queued-keeps-s12 s byte ∙ f }
 
 all : (s : Set) → set.s12Of s ≡ freshS12 → (es : List Event) → Trace s es → NoS12Line s es → AllAsBefore s es
 all s f [] t none = tt

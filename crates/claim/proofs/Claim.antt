@@ -11,6 +11,7 @@ use Rattle.schedule.proofs.Total.{total-bounds}
 use Rattle.passage.proofs.Overture.{overture-length}
 use Rattle.passage.proofs.Connected.{samples-past}
 use Rattle.soundness.specs.Sound.{rateOk}
+use Rattle.soundness.proofs.Senders.{SoundSending, fresh-sound as fresh-sender}
 use Rattle.soundness.proofs.Limits.{rate-low, rate-high, digits-few}
 use Rattle.session.specs.declared.SessionState.{SessionState}
 use Rattle.session.specs.declared.SessionState.the-variants.{Idle, Dialling, Answering, Connected}
@@ -22,11 +23,12 @@ use Rattle.set.specs.Set as set
 use Rattle.set.specs.Book.{Book, blank, overture, lengthOf, entryOf, entered}
 use Rattle.set.specs.Event.{Event}
 use Rattle.set.proofs.Soundness.{fresh-sound}
-use Rattle.set.proofs.Follows.{Follows, Invariant}
-use Rattle.set.proofs.Steps.{Stepped, feed-steps, advance-time-steps, force-data-mode-steps, process-out-steps}
-use Rattle.claim.specs.Trace.{Did, typed, lapsed, forced, filled, Trace, setAfter}
+use Rattle.set.proofs.Follows.{Follows, Invariant, next-sending}
+use Rattle.set.proofs.Steps.{Stepped, feed-steps, advance-time-steps, force-data-mode-steps, process-out-steps, queue-byte-steps}
+use Rattle.claim.specs.Trace.{Did, typed, lapsed, forced, filled, queued, Trace, setAfter}
 use Rattle.claim.specs.Claim.{SinceDial, notCalled, sinceNext, NeverBack, Answered, AllAnswered, callOf, bookAfter, sinceAfter, bitsOf, Played}
 use Rattle.claim.proofs.Consistent.{Progress, Consistent, room-left, never-6, entry-consistent, blank-consistent}
+use Rattle.claim.proofs.Sent.{SentSoFar, blank-sent, entry-sent}
 
 -- what each call's own contract tells
 one : (r : ℕ) (k : Book) (s : Set) → Invariant r k s → (e : Event) → Did s e → Stepped r k s e
@@ -34,12 +36,15 @@ one r k s inv e (typed byte carrier κs out left answer asked learnt) = feed-ste
 one r k s inv e (lapsed ns carrier answer asked learnt) = advance-time-steps r k s inv ns carrier answer learnt
 one r k s inv e (forced answer asked learnt) = force-data-mode-steps r k s inv answer learnt
 one r k s inv e (filled κs out left answer asked learnt) = process-out-steps r k s inv κs out left answer learnt
+one r k s inv e (queued byte answer asked learnt) = queue-byte-steps r k s inv byte answer learnt
 
--- ---- at every point of a list: the set, the book, and what came since the dial line
+-- ---- at every point of a list: the set, the book with its sender, and what came since the dial line
 pub record ListInvariant (r : ℕ) (s : Set) (k : Book) (h : SinceDial) : Type 0 where
   pub follows : Follows r k s
   pub sound : sound s ≡ true
   pub consistent : Consistent r k h
+  pub sending : SoundSending (k .sending) r
+  pub sent : SentSoFar r k (h .sent)
 
 pub record Runs (r : ℕ) (s : Set) (k : Book) (h : SinceDial) (es : List Event) : Type 0 where
   pub answered : AllAnswered r s k es
@@ -50,11 +55,11 @@ module _ (r : ℕ) (ok : rateOk r ≡ true) where
       → Answered r s k e × ListInvariant r (e .set) (entered r k (e .call)) (sinceNext r k h e)
   unfolding entered
   step s k h at e did =
-      let q = one r k s (record { follows = at .follows; sound = at .sound; room = room-left r ok k h (at .consistent) }) e did in
+      let q = one r k s (record { follows = at .follows; sound = at .sound; sending = at .sending; room = room-left r ok k h (at .consistent) }) e did in
       let f = q .effect .follows in (
         record {
           number = q .effect .number;
-          sound = λ (six : refusalNumber (e .refusal) ≡ 6). never-6 r ok (entryOf k (e .call)) (q .effect .limits) (sym (q .effect .number) ∙ six);
+          sound = λ (six : refusalNumber (e .refusal) ≡ 6). never-6 r ok k (entryOf k (e .call)) (q .effect .limits) (sym (q .effect .number) ∙ six);
           unchanged = q .unchanged;
           reports = record { count = f .count; state = f .state; stage = f .shown };
           key = q .effect .key;
@@ -63,6 +68,8 @@ module _ (r : ℕ) (ok : rateOk r ≡ true) where
           follows = f;
           sound = q .effect .sound;
           consistent = rw (f .state, f .shown) (entry-consistent r ok k h (at .consistent) (entryOf k (e .call)) (q .effect .limits) (e .left .samples) (q .effect .wrote));
+          sending = next-sending r ok k (entryOf k (e .call)) (at .sending);
+          sent = rw (f .state) (entry-sent r k h (at .sent) (entryOf k (e .call)) (q .effect .limits) (e .left .samples) (q .effect .wrote) (e .set .session .shown));
         },
       )
 
@@ -122,11 +129,13 @@ module _ (r : ℕ) (ok : rateOk r ≡ true) where
         up = rw (told .state, told .count) (up-exactly (k .state) (k .digits) (k .count) (k .shown) h (consistent .progress) called);
       }
 
-  pub fresh-invariant : ListInvariant r (set.freshSet r) blank notCalled
+  pub fresh-invariant : ListInvariant r (set.freshSet r) (blank r) notCalled
   unfolding idle
   fresh-invariant =
       record {
-        follows = record { rate = refl; processor = refl; state = refl; digits = refl; count = refl; shown = refl; stage = refl };
+        follows = record { rate = refl; processor = refl; state = refl; digits = refl; count = refl; shown = refl; stage = refl; sending = refl };
         sound = fresh-sound r ok;
         consistent = blank-consistent r;
+        sending = fresh-sender r (rate-low r ok) (rate-high r ok);
+        sent = blank-sent r;
       }

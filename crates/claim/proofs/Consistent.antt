@@ -28,8 +28,10 @@ use Rattle.at.specs.Processor as processor
 use Rattle.at.proofs.Sound.{sound-fresh}
 use Rattle.session.specs.declared.SessionState.{SessionState}
 use Rattle.session.specs.declared.SessionState.the-variants.{Idle, Dialling, Answering, Connected}
-use Rattle.set.specs.Book.{Book, blank, overture, lengthOf, stageOfSample, applied, shownBy, afterFill, filledIn, Entry, declined, asks, fills, numberOf, nextBook}
-use Rattle.claim.specs.Claim.{SinceDial, notCalled, passed, notedControl, notedFill, noted, AllAtMost, NeverBack}
+use Rattle.sender.specs.declared.Sending.{Sending}
+use Rattle.set.specs.Book.{Book, blank, overture, lengthOf, stageOfSample, applied, shownBy, afterFill, filledIn, Entry, declined, asks, fills, queues, numberOf, nextBook}
+use Rattle.claim.specs.Sent.{Sent}
+use Rattle.claim.specs.Claim.{SinceDial, notCalled, withSent, passed, notedControl, notedFill, noted, AllAtMost, NeverBack}
 use Rattle.set.proofs.Soundness.{dialled-ok}
 use Rattle.set.proofs.Follows.{InLimits, Wrote}
 
@@ -40,8 +42,8 @@ at-most a b (x ∷ stages) h (p, q) = (le-trans p h, at-most a b stages h q)
 not-empty : (b : ℕ) → eqb (suc b) 0 ≡ false
 not-empty b = ne-eqb (suc b) 0 (λ (e : suc b ≡ 0). omega arith)
 
-abbrev playing : AtProcessor → List ℕ → ℕ → ℕ → Book
-playing p digits count shown = record { processor = p; state = Dialling; digits = digits; count = count; shown = shown }
+abbrev playing : AtProcessor → List ℕ → ℕ → ℕ → Sending → Book
+playing p digits count shown x = record { processor = p; state = Dialling; digits = digits; count = count; shown = shown; sending = x }
 
 module _ (r : ℕ) where
   -- the line is not up: `count` samples are written of at most T, and the stage shown is no higher than the next sample's
@@ -126,11 +128,11 @@ module _ (r : ℕ) where
       joins count b joined left e f = rw (e, f) (sym (samples-add digits r count b (fresh digits r)))
 
       -- ---- a fill of b samples in Dialling: it is empty or not, and its stage is 10 or not
-      module _ (p : AtProcessor) (good : processor.sound p ≡ true) (count shown : ℕ) (h : SinceDial) (c : Playing digits count shown h) where
+      module _ (p : AtProcessor) (good : processor.sound p ≡ true) (count shown : ℕ) (x : Sending) (h : SinceDial) (c : Playing digits count shown h) where
         fill-consistent : (b : ℕ) (left : List Float) → b ≤ 65536 → left ≡ samples b (after count (fresh digits r) digits r) digits r
             → (up : Bool) → eqb (shownBy digits r count b) 10 ≡ up
-            → let k = afterFill up (shownBy digits r count b) (count + b) (playing p digits count shown) in
-            Consistent k (notedFill Dialling b r (playing p digits count shown) left (k .state) (k .shown) h)
+            → let k = afterFill up r (shownBy digits r count b) (count + b) (playing p digits count shown x) in
+            Consistent k (notedFill Dialling b r (playing p digits count shown x) left (k .state) (k .shown) h)
         fill-consistent zero left room w true e =
             let l : lengthOf digits r ≤ count = past-end count e in
             let q : count ≡ lengthOf digits r = omega (arith, c .most) in
@@ -201,11 +203,11 @@ module _ (r : ℕ) where
             }
 
     -- ---- a call that leaves the book's line as it is
-    passed-progress : (state : SessionState) (digits : List ℕ) (count shown : ℕ) (h : SinceDial)
-        → Progress state digits count shown h → Progress state digits count shown (passed state shown h)
-    passed-progress Idle digits count shown h c = c
-    passed-progress Answering digits count shown h c = c
-    passed-progress Dialling digits count shown h c =
+    passed-progress : (state : SessionState) (digits : List ℕ) (count shown : ℕ) (h : SinceDial) (sent : Sent)
+        → Progress state digits count shown h → Progress state digits count shown (withSent sent (passed state shown h))
+    passed-progress Idle digits count shown h sent c = c
+    passed-progress Answering digits count shown h sent c = c
+    passed-progress Dialling digits count shown h sent c =
         record {
           called = c .called;
           most = c .most;
@@ -216,23 +218,24 @@ module _ (r : ℕ) where
           wrote = c .wrote;
           sum = c .sum;
         }
-    passed-progress Connected digits count shown h c =
+    passed-progress Connected digits count shown h sent c =
         record { called = c .called; past = c .past; most = c .most; rising = c .rising; wrote = c .wrote; sum = c .sum }
 
-    pub never-6 : (entry : Entry) → InLimits entry → numberOf entry ≡ 6 → ⊥
-    never-6 (declined cause) limits e = limits e
-    never-6 (asks control line p) limits e = omega arith
-    never-6 (fills b) limits e = omega arith
+    pub never-6 : (k : Book) (entry : Entry) → InLimits k entry → numberOf entry ≡ 6 → ⊥
+    never-6 k (declined cause) limits e = limits e
+    never-6 k (asks control line p) limits e = omega arith
+    never-6 k (fills b) limits e = omega arith
+    never-6 k (queues byte) limits e = omega arith
 
     -- ---- each keeps it
     module _ (k : Book) (h : SinceDial) (consistent : Consistent k h) where
-      passed-consistent : Consistent k (passed (k .state) (k .shown) h)
-      passed-consistent =
+      passed-consistent : (sent : Sent) → Consistent k (withSent sent (passed (k .state) (k .shown) h))
+      passed-consistent sent =
           record {
             processor = consistent .processor;
             digits = consistent .digits;
             shown = consistent .shown;
-            progress = passed-progress (k .state) (k .digits) (k .count) (k .shown) h (consistent .progress);
+            progress = passed-progress (k .state) (k .digits) (k .count) (k .shown) h sent (consistent .progress);
           }
 
       applied-consistent : (c : Control) (line : List ℕ) (p : AtProcessor) → length line ≤ 76 → processor.sound p ≡ true
@@ -243,7 +246,7 @@ module _ (r : ℕ) where
             processor = good;
             digits = consistent .digits;
             shown = consistent .shown;
-            progress = passed-progress (k .state) (k .digits) (k .count) (k .shown) h (consistent .progress);
+            progress = passed-progress (k .state) (k .digits) (k .count) (k .shown) h (h .sent) (consistent .progress);
           }
       applied-consistent Answer line p short good = record { processor = good; digits = refl; shown = omega arith; progress = (refl, refl) }
       applied-consistent Hangup line p short good = record { processor = good; digits = refl; shown = omega arith; progress = (refl, refl) }
@@ -265,23 +268,28 @@ module _ (r : ℕ) where
           }
 
     filled-consistent : (b : ℕ) (left : List Float) (h : SinceDial) → b ≤ 65536
-        → (p : AtProcessor) (state : SessionState) (digits : List ℕ) (count shown : ℕ)
-        → let k : Book = record { processor = p; state = state; digits = digits; count = count; shown = shown } in
+        → (p : AtProcessor) (state : SessionState) (digits : List ℕ) (count shown : ℕ) (x : Sending)
+        → let k : Book = record { processor = p; state = state; digits = digits; count = count; shown = shown; sending = x } in
         let next = filledIn state r k b in
         Wrote r k (fills b) left → Consistent k h → Consistent next (notedFill state b r k left (next .state) (next .shown) h)
-    filled-consistent b left h room p Connected digits count shown w consistent = passed-consistent _ h consistent
-    filled-consistent b left h room p Idle digits count shown w consistent = passed-consistent _ h consistent
-    filled-consistent b left h room p Answering digits count shown w consistent = passed-consistent _ h consistent
-    filled-consistent b left h room p Dialling digits count shown w consistent =
-        fill-consistent digits (consistent .digits) p (consistent .processor) count shown h (consistent .progress) b left room (w refl) _ refl
+    filled-consistent b left h room p Connected digits count shown x w consistent =
+        let q = passed-consistent _ h consistent _ in
+        record { processor = q .processor; digits = q .digits; shown = q .shown; progress = q .progress }
+    filled-consistent b left h room p Idle digits count shown x w consistent = passed-consistent _ h consistent (h .sent)
+    filled-consistent b left h room p Answering digits count shown x w consistent = passed-consistent _ h consistent (h .sent)
+    filled-consistent b left h room p Dialling digits count shown x w consistent =
+        fill-consistent digits (consistent .digits) p (consistent .processor) count shown x h (consistent .progress) b left room (w .0 refl) _ refl
 
-    pub entry-consistent : (k : Book) (h : SinceDial) → Consistent k h → (entry : Entry) → InLimits entry → (left : List Float) → Wrote r k entry left
+    pub entry-consistent : (k : Book) (h : SinceDial) → Consistent k h → (entry : Entry) → InLimits k entry → (left : List Float) → Wrote r k entry left
         → let next = nextBook r k entry in
         Consistent next (noted entry r k left (next .state) (next .shown) h)
-    entry-consistent k h consistent (declined cause) limits left w = passed-consistent k h consistent
+    entry-consistent k h consistent (declined cause) limits left w = passed-consistent k h consistent (h .sent)
     entry-consistent k h consistent (asks control line p) (short, good) left w = applied-consistent k h consistent control line p short good
-    entry-consistent k h consistent (fills b) room left w = filled-consistent b left h room (k .processor) (k .state) (k .digits) (k .count) (k .shown) w consistent
+    entry-consistent k h consistent (fills b) room left w = filled-consistent b left h room (k .processor) (k .state) (k .digits) (k .count) (k .shown) (k .sending) w consistent
+    entry-consistent k h consistent (queues byte) room left w =
+        let q = passed-consistent k h consistent _ in
+        record { processor = q .processor; digits = q .digits; shown = q .shown; progress = q .progress }
 
-  pub blank-consistent : Consistent blank notCalled
+  pub blank-consistent : Consistent (blank r) notCalled
   unfolding digitsOk allKeys
   blank-consistent = record { processor = sound-fresh; digits = refl; shown = omega arith; progress = (refl, refl) }

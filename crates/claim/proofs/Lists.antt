@@ -11,9 +11,9 @@ use Rattle.set.specs.declared.Set.{Set}
 use Rattle.set.specs.Refusals.{ifAccepted}
 use Rattle.set.specs.Set as set
 use Rattle.set.specs.String.{causeByLengths, typedAll, outboxAll, codesAll}
-use Rattle.set.specs.Book.{Call, typing, time, forcing, filling}
-use Rattle.set.specs.Event.{Event, typedEvent, lapsedEvent, forcedEvent, filledEvent, stringEvent}
-use Rattle.claim.specs.Trace.{Did, typed, lapsed, forced, filled}
+use Rattle.set.specs.Book.{Call, typing, time, forcing, filling, queuing}
+use Rattle.set.specs.Event.{Event, typedEvent, lapsedEvent, forcedEvent, filledEvent, queuedEvent, stringEvent}
+use Rattle.claim.specs.Trace.{Did, typed, lapsed, forced, filled, queued}
 use Rattle.claim.specs.Claim.{callOf}
 use Rattle.claim.specs.Strings as step
 use Rattle.claim.specs.Strings.{Step, setOf, Happened, called, History, typings, callsOf, allCalls}
@@ -59,6 +59,8 @@ makes κs l s (filling b) =
       did = filled κs (lent was) (set.buffer s was) (set.fill s (length was)) tt (refl, refl);
       asked = ap filling (l .all-samples b);
     }
+makes κs l s (queuing byte) =
+    record { event = queuedEvent byte (set.byteQueued s byte); did = queued byte (set.byteQueued s byte) tt refl; asked = refl }
 
 -- ---- and of a list of them, strings among them
 pub data Act : Type 0 where

@@ -6,7 +6,7 @@ use mathlib.Core.Bool.{Bool, true, false}
 use mathlib.Core.List.{List, [], _∷_, _++_, map}
 use mathlib.Core.Logic.{_⊎_, _↔_}
 use lib.Ieee.{Float, binary32, toBits, ofBits}
-use lib.ListN.{length, replicate}
+use lib.ListN.{length, replicate, take}
 use Rattle.keys.specs.declared.Lit.the-variants as lit
 use Rattle.reply.specs.declared.Reply.the-variants.{None}
 use Rattle.at.specs.declared.AtProcessor.{AtProcessor}
@@ -16,20 +16,25 @@ use Rattle.session.specs.declared.SessionState.{SessionState}
 use Rattle.session.specs.declared.SessionState.the-variants.{Idle, Dialling, Answering, Connected}
 use Rattle.schedule.specs.Bounds.{TotalBounds}
 use Rattle.passage.specs.Overture.{HasLength}
+use Rattle.sender.specs.Symbols.{bitsOf, symbols}
+use Rattle.sender.specs.Carries.{Carries}
+use Rattle.sender.specs.Sounds.{Sounds, freshKeying}
 use Rattle.set.specs.declared.Set.{Set}
 use Rattle.set.specs.declared.Made.{Made}
 use Rattle.set.specs.declared.Typed.{Typed}
 use Rattle.set.specs.declared.Lapsed.{Lapsed}
 use Rattle.set.specs.declared.Forced.{Forced}
 use Rattle.set.specs.declared.Filled.{Filled}
+use Rattle.set.specs.declared.Queued.{Queued}
 use Rattle.set.specs.declared.Refusal.{Refusal}
 use Rattle.set.specs.Refusals.{refusalNumber}
 use Rattle.set.specs.Set.{s12Of, made}
 use Rattle.set.specs.Before.{typedBefore, outboxBefore, lapsedBefore}
 use Rattle.set.specs.String.{atFront}
-use Rattle.set.specs.Book.{Book, declined, asks, blank, overture, lengthOf, declinedWith, keyAnswered, entered}
-use Rattle.set.specs.Event.{Event, typedEvent, lapsedEvent, forcedEvent, filledEvent, Unchanged, StringEvent, StringUnchanged}
+use Rattle.set.specs.Book.{Book, declined, asks, queues, blank, overture, lengthOf, declinedWith, keyAnswered, entered}
+use Rattle.set.specs.Event.{Event, typedEvent, lapsedEvent, forcedEvent, filledEvent, queuedEvent, Unchanged, StringEvent, StringUnchanged}
 use Rattle.claim.specs.Trace.{Trace, setAfter}
+use Rattle.claim.specs.Sent.{Sent}
 use Rattle.claim.specs.Claim.{SinceDial, notCalled, notedFill, noted, AllAtMost, NeverBack, Reports, Answered, AllAnswered, bookAfter, sinceAfter, Played}
 use Rattle.claim.specs.Strings.{Step, single, string, setOf, History, lastSet, causeOf, singles, sentIn, codesIn, allSingles, callsOf, allCalls, StringAnswered, StepAnswered, AllStepsAnswered, Claim}
 use Rattle.claim.specs.Before.{NoS12Line, AsBefore, AllAsBefore}
@@ -54,9 +59,9 @@ pub typing-holds-none : (s : Set) (byte : ℕ) (carrier : Bool) (was left : List
     → NoS12Line s (typedEvent byte carrier was left a ∷ [])
 typing-holds-none s byte carrier was left a none = (none, tt)
 
-pub others-hold-none : (s : Set) (ns : ℕ) (carrier : Bool) (a : Lapsed) (f : Forced) (was left : List Float) (b : Filled)
-    → NoS12Line s (lapsedEvent ns carrier a ∷ forcedEvent f ∷ filledEvent was left b ∷ [])
-others-hold-none s ns carrier a f was left b = (refl, (refl, (refl, tt)))
+pub others-hold-none : (s : Set) (ns : ℕ) (carrier : Bool) (a : Lapsed) (f : Forced) (was left : List Float) (b : Filled) (byte : ℕ) (q : Queued)
+    → NoS12Line s (lapsedEvent ns carrier a ∷ forcedEvent f ∷ filledEvent was left b ∷ queuedEvent byte q ∷ [])
+others-hold-none s ns carrier a f was left b byte q = (refl, (refl, (refl, (refl, tt))))
 
 -- of two stages shown the newer is not the lower one
 not-lower : (newer : List ℕ) (y : ℕ) (between : List ℕ) (x : ℕ) (older : List ℕ) → NeverBack (newer ++ y ∷ between ++ x ∷ older) → x ≤ y
@@ -102,10 +107,10 @@ module _ (rate : ℕ) (answer : Made) (d : start.Learnt tt (rate, tt) answer (ra
 
   module _ (xs : List Step) (e : Event) (later : List Step) (t : History s (xs ++ single e ∷ later)) where
     abbrev before : Book
-    before = bookAfter (s .rate) blank (allCalls xs)
+    before = bookAfter (s .rate) (blank (s .rate)) (allCalls xs)
 
     answered : Answered (s .rate) (lastSet s xs) before e
-    answered = at-step (s .rate) s blank xs (single e) later (claim (xs ++ single e ∷ later) t .answered)
+    answered = at-step (s .rate) s (blank (s .rate)) xs (single e) later (claim (xs ++ single e ∷ later) t .answered)
 
     pub number-is : refusalNumber (e .refusal) ≡ declinedWith before (e .call)
     number-is = answered .number
@@ -153,10 +158,10 @@ module _ (rate : ℕ) (answer : Made) (d : start.Learnt tt (rate, tt) answer (ra
   -- a string: in limits it counts as its bytes
   module _ (xs : List Step) (e : StringEvent) (later : List Step) (t : History s (xs ++ string e ∷ later)) where
     abbrev string-before : Book
-    string-before = bookAfter (s .rate) blank (allCalls xs)
+    string-before = bookAfter (s .rate) (blank (s .rate)) (allCalls xs)
 
     string-answered : StringAnswered (s .rate) (lastSet s xs) string-before e
-    string-answered = at-step (s .rate) s blank xs (string e) later (claim (xs ++ string e ∷ later) t .answered)
+    string-answered = at-step (s .rate) s (blank (s .rate)) xs (string e) later (claim (xs ++ string e ∷ later) t .answered)
 
     pub string-number-is : refusalNumber (e .answer .refusal) ≡ refusalNumber (causeOf e)
     string-number-is = string-answered .number
@@ -212,9 +217,22 @@ module _ (rate : ℕ) (answer : Made) (d : start.Learnt tt (rate, tt) answer (ra
     pub same-set : setAfter s (allSingles s xs) ≡ lastSet s xs
     same-set = claim xs t .same
 
-  module _ (xs : List Step) (t : History s xs) (called : sinceAfter (s .rate) blank notCalled (allSingles s xs) .called ≡ true) where
+    -- 02, E10: what was queued and what was sent
+    abbrev sent : Sent
+    sent = sinceAfter (s .rate) (blank (s .rate)) notCalled (allSingles s xs) .sent
+
+    pub bytes-sent : sent .queued ≡ sent .begun ++ take (lastSet s xs .sending .queue .len) (lastSet s xs .sending .queue .bytes)
+    bytes-sent = claim xs t .sent .bytes
+
+    pub bits-carry : Carries (sent .symbols) (sent .begun)
+    bits-carry = claim xs t .sent .bits
+
+    pub buffers-sound : Sounds (freshKeying (s .rate)) (bitsOf (sent .symbols)) (sent .filled)
+    buffers-sound = claim xs t .sent .samples
+
+  module _ (xs : List Step) (t : History s xs) (called : sinceAfter (s .rate) (blank (s .rate)) notCalled (allSingles s xs) .called ≡ true) where
     abbrev digits : List ℕ
-    digits = bookAfter (s .rate) blank (allCalls xs) .digits
+    digits = bookAfter (s .rate) (blank (s .rate)) (allCalls xs) .digits
 
     abbrev T : ℕ
     T = lengthOf digits (s .rate)
@@ -223,7 +241,7 @@ module _ (rate : ℕ) (answer : Made) (d : start.Learnt tt (rate, tt) answer (ra
     last = lastSet s xs
 
     abbrev since : SinceDial
-    since = sinceAfter (s .rate) blank notCalled (allSingles s xs)
+    since = sinceAfter (s .rate) (blank (s .rate)) notCalled (allSingles s xs)
 
     played : Played (s .rate) last digits T since
     played = claim xs t .played called
@@ -264,5 +282,22 @@ module _ (r : ℕ) (k : Book) (left : List Float) (stage : ℕ) (h : SinceDial) 
   pub declined-noted : (cause : Refusal) → noted (declined cause) r k left Dialling stage h .stages ≡ stage ∷ h .stages
   declined-noted cause = refl
 
+  pub queued-noted : (byte : ℕ) → noted (queues byte) r k left Dialling stage h .stages ≡ stage ∷ h .stages
+  queued-noted byte = refl
+
   pub dial-noted : (line : List ℕ) (p : AtProcessor) → noted (asks Dial line p) r k left Dialling stage h .stages ≡ stage ∷ []
   dial-noted line p = refl
+
+  -- of a fill the buffer is noted as it was left: with the overture's in Dialling, and, 02, E10, with the sender's in Connected, beside the symbols begun
+  pub fill-joined : (state : SessionState) (b : ℕ) → notedFill Dialling b r k left state stage h .joined ≡ h .joined ++ left
+  fill-joined state b = refl
+
+  pub fill-sent : (state : SessionState) (b : ℕ) → notedFill Connected b r k left state stage h .sent .filled ≡ h .sent .filled ++ left
+  fill-sent state b = refl
+
+  pub fill-begins : (state : SessionState) (b : ℕ) → notedFill Connected b r k left state stage h .sent .symbols ≡ h .sent .symbols ++ symbols b (k .sending)
+  fill-begins state b = refl
+
+  -- and a byte where it is queued
+  pub byte-queued : (state : SessionState) (byte : ℕ) → noted (queues byte) r k left state stage h .sent .queued ≡ h .sent .queued ++ (byte ∷ [])
+  byte-queued state byte = refl

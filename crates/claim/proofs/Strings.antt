@@ -21,8 +21,9 @@ use Rattle.set.specs.Book.{Call, typing, Book, blank}
 use Rattle.set.proofs.Answers.{feed-all-answers}
 use Rattle.claim.specs.Trace.{typed, Trace, setAfter}
 use Rattle.claim.specs.Claim.{SinceDial, notCalled, AllAnswered, callOf, bookAfter, sinceAfter}
-use Rattle.claim.specs.Strings.{Step, setOf, Happened, called, typedAll as typed-all, History, typedSingly, singles, sentIn, codesIn, typings, callsOf, StepAnswered, Claim}
+use Rattle.claim.specs.Strings.{Step, setOf, Happened, called, typedAll as typed-all, History, typedSingly, singles, sentIn, codesIn, typings, callsOf, allCalls, StepAnswered, Claim}
 use Rattle.claim.proofs.Claim.{ListInvariant, played, fresh-invariant}
+use Rattle.claim.proofs.Sent.{sends}
 use Rattle.claim.proofs.Expand.{Counts, Expanded, expanded}
 
 -- ---- the bytes typed singly
@@ -39,7 +40,7 @@ unfolding setBy
 singly-set s [] carrier = refl
 singly-set s (byte ∷ bytes) carrier = singly-set (set.typed s byte carrier 4 .set) bytes carrier
 
-singly-calls : (s : Set) (bytes : List ℕ) (carrier : Bool) → map callOf (typedSingly s bytes carrier) ≡ typings bytes carrier
+pub singly-calls : (s : Set) (bytes : List ℕ) (carrier : Bool) → map callOf (typedSingly s bytes carrier) ≡ typings bytes carrier
 singly-calls s [] carrier = refl
 singly-calls s (byte ∷ bytes) carrier = ap (λ (l : List Call). typing byte carrier 4 ∷ l) (singly-calls (set.typed s byte carrier 4 .set) bytes carrier)
 
@@ -114,16 +115,16 @@ module _ (r : ℕ) (ok : rateOk r ≡ true) where
       }
 
   abbrev Runs : List Step → Type 0
-  Runs xs = Expanded r ok (λ (s : Set). s) setOf Happened singles callsOf (StepAnswered r) counts tells (set.freshSet r) blank notCalled xs
+  Runs xs = Expanded r ok (λ (s : Set). s) setOf Happened singles callsOf (StepAnswered r) counts tells (set.freshSet r) (blank r) notCalled xs
 
   pub fresh-runs : (xs : List Step) → History (set.freshSet r) xs → Runs xs
   fresh-runs xs t =
-      expanded r ok (λ (s : Set). s) setOf Happened singles callsOf (StepAnswered r) counts tells (set.freshSet r) blank notCalled (fresh-invariant r ok) xs t
+      expanded r ok (λ (s : Set). s) setOf Happened singles callsOf (StepAnswered r) counts tells (set.freshSet r) (blank r) notCalled (fresh-invariant r ok) xs t
 
   fresh-holds : Claim (set.freshSet r)
   fresh-holds xs t =
       let q = fresh-runs xs t in
-      record { answered = q .each; singly = q .trace; same = q .set; played = λ called. played r ok _ _ _ (q .last) called }
+      record { answered = q .each; singly = q .trace; same = q .set; played = λ called. played r ok _ _ _ (q .last) called; sent = rw (q .last .follows .sending) (sends r (bookAfter r (blank r) (allCalls xs)) _ (q .last .sent)) }
 
 -- a set that creation hands out is fresh at a rate in limits
 pub claim : (rate : ℕ) → Claim (set.made rate .set)

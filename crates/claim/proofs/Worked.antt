@@ -30,11 +30,15 @@ use Rattle.at.specs.Escape.{withheld, dataByte, escaped, waited}
 use Rattle.at.specs.Carrier.{polled, downFor}
 use Rattle.at.specs.At.{ended, commandByte, typedByte, lapse}
 use Rattle.session.specs.declared.SessionState.{SessionState}
-use Rattle.session.specs.declared.SessionState.the-variants.{Idle, Dialling, Connected}
+use Rattle.session.specs.declared.SessionState.the-variants.{Idle, Dialling, Answering, Connected}
 use Rattle.session.specs.Session.{stateNumber}
 use Rattle.soundness.specs.Sound.{rateOk}
 use Rattle.set.specs.Refusals.{accepted}
-use Rattle.set.specs.Set.{freshSet}
+use Rattle.set.specs.Set.{freshSet, raisedIf}
+use Rattle.queue.specs.declared.Queue.{Queue}
+use Rattle.queue.specs.Queue.{emptyQueue}
+use Rattle.sender.specs.declared.Sending.{Sending}
+use Rattle.sender.specs.Sender.{freshSending, raised}
 use Rattle.set.specs.Book.{Call, time, filling, Book, blank, lengthOf, stageOfSample, shownBy, stateIf, afterFill, entryOf, entered}
 use Rattle.claim.specs.Claim.{SinceDial, notCalled, bookAfter, sinceAfter}
 use Rattle.claim.specs.Strings.{Step, History, lastSet, allSingles, typings, allCalls}
@@ -53,9 +57,13 @@ typingsOf text = typings (ascii text) false
 abbrev pub dial12 : List Call
 dial12 = typingsOf "ATDT12\r"
 
-pub dialled : (bookAfter 8000 blank dial12 .state ≡ Dialling) × (bookAfter 8000 blank dial12 .digits ≡ ascii "12") × (bookAfter 8000 blank dial12 .count ≡ 0)
+pub dialled : (bookAfter 8000 (blank 8000) dial12 .state ≡ Dialling) × (bookAfter 8000 (blank 8000) dial12 .digits ≡ ascii "12") × (bookAfter 8000 (blank 8000) dial12 .count ≡ 0)
 unfolding entered entryOf typedByte commandByte ended pushed upper uppercased begins is commandOf executed digitsOf keysOf isKey keyRow accepted
 dialled = (refl, refl, refl)
+
+none-dialled : bookAfter 8000 (blank 8000) dial12 .sending .queue ≡ emptyQueue
+unfolding entered entryOf typedByte commandByte ended pushed upper uppercased begins is commandOf executed digitsOf keysOf isKey keyRow accepted
+none-dialled = refl
 
 -- T, for 12 at 8,000
 abbrev pub T : ℕ
@@ -81,51 +89,63 @@ ends : eqb (stageOfSample (ascii "12") 8000 (suc T)) 10 ≡ true
 unfolding stageOfSample
 ends = eq-eqb _ 10 (ap stageNumber (connected-exactly (ascii "12") 8000 T long T .1 (omega arith)))
 
+-- until the line is up no byte waits, and then for a fresh sender
+abbrev pub NoneWaits : SessionState → Sending → Type 0
+NoneWaits Idle x = x .queue ≡ emptyQueue
+NoneWaits Dialling x = x .queue ≡ emptyQueue
+NoneWaits Answering x = x .queue ≡ emptyQueue
+NoneWaits Connected x = x ≡ freshSending 8000
+
+none-waits : (up : Bool) (x : Sending) → x .queue ≡ emptyQueue → NoneWaits (stateIf up) (raisedIf up x 8000)
+none-waits true x e = ap (λ (q : Queue). raised (record { sender = x .sender; queue = q }) 8000) e
+none-waits false x e = e
+
 -- a book in the state, with 12 noted, and `count` samples written
-record At (state : SessionState) (count : ℕ) (k : Book) : Type 0 where
-  state-is : k .state ≡ state
-  digits-are : k .digits ≡ ascii "12"
-  count-is : k .count ≡ count
+pub record At (state : SessionState) (count : ℕ) (k : Book) : Type 0 where
+  pub state-is : k .state ≡ state
+  pub digits-are : k .digits ≡ ascii "12"
+  pub count-is : k .count ≡ count
+  pub none-waits : NoneWaits state (k .sending)
 
 same-count : {state : SessionState} {a b : ℕ} {k : Book} → a ≡ b → At state a k → At state b k
-same-count e p = record { state-is = p .state-is; digits-are = p .digits-are; count-is = p .count-is ∙ e }
+same-count e p = record { state-is = p .state-is; digits-are = p .digits-are; count-is = p .count-is ∙ e; none-waits = p .none-waits }
 
-after-fill-at : (up : Bool) (shown count : ℕ) (k : Book) → k .digits ≡ ascii "12" → At (stateIf up) count (afterFill up shown count k)
-after-fill-at up shown count k e = record { state-is = refl; digits-are = e; count-is = refl }
+after-fill-at : (up : Bool) (shown count : ℕ) (k : Book) → k .digits ≡ ascii "12" → k .sending .queue ≡ emptyQueue → At (stateIf up) count (afterFill up 8000 shown count k)
+after-fill-at up shown count k e none = record { state-is = refl; digits-are = e; count-is = refl; none-waits = none-waits up (k .sending) none }
 
 fill-at : (up : Bool) (count b : ℕ) (k : Book) → At Dialling count k → b ≤ 65536
     → eqb (shownBy (ascii "12") 8000 count b) 10 ≡ up → At (stateIf up) (count + b) (entered 8000 k (filling b))
 unfolding entered entryOf accepted stateNumber
 fill-at up count b k a short e =
-    let now : Book = record { processor = k .processor; state = Dialling; digits = ascii "12"; count = count; shown = k .shown } in
-    rw (a .state-is, le-ltb 65536 b short, a .digits-are, a .count-is, e) (after-fill-at up _ (count + b) now refl)
+    let now : Book = record { processor = k .processor; state = Dialling; digits = ascii "12"; count = count; shown = k .shown; sending = k .sending } in
+    rw (a .state-is, le-ltb 65536 b short, a .digits-are, a .count-is, e) (after-fill-at up _ (count + b) now refl (a .none-waits))
 
 -- ---- a fill, the escape, and the string that hangs up and dials again
-abbrev playing : AtProcessor → ℕ → ℕ → Book
-playing p count shown = record { processor = p; state = Dialling; digits = ascii "12"; count = count; shown = shown }
+abbrev pub playing : AtProcessor → Sending → ℕ → ℕ → Book
+playing p x count shown = record { processor = p; state = Dialling; digits = ascii "12"; count = count; shown = shown; sending = x }
 
 fill-is : (count b : ℕ) (k : Book) → At Dialling count k → b ≤ 65536 → eqb (shownBy (ascii "12") 8000 count b) 10 ≡ false
-    → entered 8000 k (filling b) ≡ playing (k .processor) (count + b) (shownBy (ascii "12") 8000 count b)
+    → entered 8000 k (filling b) ≡ playing (k .processor) (k .sending) (count + b) (shownBy (ascii "12") 8000 count b)
 unfolding entered entryOf accepted stateNumber
 fill-is count b k a short e = rw (a .state-is, le-ltb 65536 b short, a .digits-are, a .count-is, e)
 
 abbrev escape : List Call
 escape = time 1_000_000_000 false ∷ typingsOf "+++" ++ (time 1_000_000_000 false ∷ [])
 
-abbrev again : List Call
+abbrev pub again : List Call
 again = escape ++ typingsOf "ATH\rATDT12\r"
 
 -- the processor after the first dial line
-abbrev online : AtProcessor
-online = bookAfter 8000 blank dial12 .processor
+abbrev pub online : AtProcessor
+online = bookAfter 8000 (blank 8000) dial12 .processor
 
-hangs-up : (shown : ℕ) → bookAfter 8000 (playing online 401 shown) (escape ++ typingsOf "ATH\r") .state ≡ Idle
+hangs-up : (x : Sending) (shown : ℕ) → bookAfter 8000 (playing online x 401 shown) (escape ++ typingsOf "ATH\r") .state ≡ Idle
 unfolding entered entryOf typedByte commandByte ended pushed upper uppercased begins is commandOf executed digitsOf keysOf isKey keyRow accepted dataByte withheld lapse waited escaped polled downFor added
-hangs-up shown = refl
+hangs-up x shown = refl
 
-dials-again : (shown : ℕ) → At Dialling 0 (bookAfter 8000 (playing online 401 shown) again)
+dials-again : (x : Sending) (shown : ℕ) → At Dialling 0 (bookAfter 8000 (playing online x 401 shown) again)
 unfolding entered entryOf typedByte commandByte ended pushed upper uppercased begins is commandOf executed digitsOf keysOf isKey keyRow accepted dataByte withheld lapse waited escaped polled downFor added
-dials-again shown = record { state-is = refl; digits-are = refl; count-is = refl }
+dials-again x shown = record { state-is = refl; digits-are = refl; count-is = refl; none-waits = refl }
 
 -- across OffHook's end at 400, across DialTone's at 8,400, empty, up to Dialling's last sample, the longest, and all that is left; then empty at T
 abbrev pub fills : List Call
@@ -142,7 +162,7 @@ fills =
 abbrev pub calls : List Call
 calls = dial12 ++ (filling 401 ∷ again ++ fills)
 
-abbrev lendingZeros : Call → Act
+abbrev pub lendingZeros : Call → Act
 lendingZeros call = single call zeros
 
 abbrev pub acts : List Act
@@ -184,12 +204,17 @@ module _ (k : Book) (a : At Dialling 0 k) where
   up-at-T : At Connected T (bookAfter 8000 k fills)
   up-at-T = same-count (add-zero T) (fill-at true T 0 _ played (lit≤ tt) ends)
 
-worked-book : At Connected T (bookAfter 8000 blank calls)
+pub first-fill : entered 8000 (bookAfter 8000 (blank 8000) dial12) (filling 401)
+    ≡ playing online (bookAfter 8000 (blank 8000) dial12 .sending) (0 + 401) (shownBy (ascii "12") 8000 0 401)
+first-fill =
+    fill-is 0 401 (bookAfter 8000 (blank 8000) dial12)
+    (record { state-is = dialled .0; digits-are = dialled .1; count-is = dialled .2; none-waits = none-dialled }) (lit≤ tt)
+    (not-ten 400 (omega (arith, T-near .0)))
+
+pub worked-book : At Connected T (bookAfter 8000 (blank 8000) calls)
 worked-book =
-    let start : At Dialling 0 (bookAfter 8000 blank dial12) = record { state-is = dialled .0; digits-are = dialled .1; count-is = dialled .2 } in
-    let first = fill-is 0 401 (bookAfter 8000 blank dial12) start (lit≤ tt) (not-ten 400 (omega (arith, T-near .0))) in
-    let redialled : At Dialling 0 (bookAfter 8000 (entered 8000 (bookAfter 8000 blank dial12) (filling 401)) again) = rw first (dials-again _) in
-    rw (book-joined 8000 blank dial12 (filling 401 ∷ again ++ fills), book-joined 8000 (entered 8000 (bookAfter 8000 blank dial12) (filling 401)) again fills)
+    let redialled : At Dialling 0 (bookAfter 8000 (entered 8000 (bookAfter 8000 (blank 8000) dial12) (filling 401)) again) = rw first-fill (dials-again _ _) in
+    rw (book-joined 8000 (blank 8000) dial12 (filling 401 ∷ again ++ fills), book-joined 8000 (entered 8000 (bookAfter 8000 (blank 8000) dial12) (filling 401)) again fills)
     (up-at-T _ redialled)
 
 -- ---- what comes of these calls on a set fresh at 8,000
@@ -200,11 +225,11 @@ pub record Worked (κs : Lfts 3) : Type 0 where
   pub history : History (freshSet 8000) (steps κs)
   pub asked : allCalls (steps κs) ≡ calls
   -- the premise of the claim, with the digits 12
-  pub called : sinceAfter 8000 blank notCalled (allSingles (freshSet 8000) (steps κs)) .called ≡ true
-  pub digits : bookAfter 8000 blank (allCalls (steps κs)) .digits ≡ ascii "12"
+  pub called : sinceAfter 8000 (blank 8000) notCalled (allSingles (freshSet 8000) (steps κs)) .called ≡ true
+  pub digits : bookAfter 8000 (blank 8000) (allCalls (steps κs)) .digits ≡ ascii "12"
   -- m = T, and the empty fill that came there has the line up
   pub count : lastSet (freshSet 8000) (steps κs) .session .m ≡ T
-  pub emptied : sinceAfter 8000 blank notCalled (allSingles (freshSet 8000) (steps κs)) .emptied ≡ true
+  pub emptied : sinceAfter 8000 (blank 8000) notCalled (allSingles (freshSet 8000) (steps κs)) .emptied ≡ true
   pub up : lastSet (freshSet 8000) (steps κs) .session .state ≡ Connected
 
 module _ (count : ℕ) (h : SinceDial) (c : Up 8000 (ascii "12") count h) (e : count ≡ T) where
@@ -226,9 +251,9 @@ unfolding rateOk
 worked κs =
     let q = every-list κs (freshSet 8000) acts in
     let same : allCalls (steps κs) ≡ calls = q .asked ∙ acts-ask in
-    let book : At Connected T (bookAfter 8000 blank (allCalls (steps κs))) = subst (λ (cs : List Call). At Connected T (bookAfter 8000 blank cs)) (sym same) worked-book in
+    let book : At Connected T (bookAfter 8000 (blank 8000) (allCalls (steps κs))) = subst (λ (cs : List Call). At Connected T (bookAfter 8000 (blank 8000) cs)) (sym same) worked-book in
     let runs = fresh-runs 8000 refl (steps κs) (q .history) in
-    let progress : Up 8000 (ascii "12") (bookAfter 8000 blank (allCalls (steps κs)) .count) (sinceAfter 8000 blank notCalled (allSingles (freshSet 8000) (steps κs))) = progress-up _ _ book (runs .last .consistent) in
+    let progress : Up 8000 (ascii "12") (bookAfter 8000 (blank 8000) (allCalls (steps κs)) .count) (sinceAfter 8000 (blank 8000) notCalled (allSingles (freshSet 8000) (steps κs))) = progress-up _ _ book (runs .last .consistent) in
     record {
       history = q .history;
       asked = same;

@@ -6,10 +6,10 @@ use mathlib.Core.List.{List, [], _∷_}
 use Rattle.at.specs.Processor.{freshS12}
 use Rattle.at.specs.Before.{endsS12Line}
 use Rattle.set.specs.declared.Set.{Set}
-use Rattle.set.specs.Set.{s12Of, forced, fill, buffer}
+use Rattle.set.specs.Set.{s12Of, forced, fill, buffer, byteQueued}
 use Rattle.set.specs.Before.{typedBefore, outboxBefore, lapsedBefore}
-use Rattle.set.specs.Book.{Call, typing, time, forcing, filling}
-use Rattle.set.specs.Event.{Event, typedEvent, lapsedEvent, forcedEvent, filledEvent}
+use Rattle.set.specs.Book.{Call, typing, time, forcing, filling, queuing}
+use Rattle.set.specs.Event.{Event, typedEvent, lapsedEvent, forcedEvent, filledEvent, queuedEvent}
 use Rattle.claim.specs.Strings.{Step, History, allSingles}
 
 -- a call that ends an S12 line: its CR
@@ -18,6 +18,7 @@ endsS12 s (typing byte carrier room) = endsS12Line (s .processor) byte
 endsS12 s (time ns carrier) = false
 endsS12 s forcing = false
 endsS12 s (filling b) = false
+endsS12 s (queuing byte) = false
 
 -- calls that hold none
 abbrev pub NoS12Line : Set → List Event → Type 0
@@ -30,6 +31,7 @@ before s (typing byte carrier room) e = typedEvent byte carrier (e .lent .bytes)
 before s (time ns carrier) e = lapsedEvent ns carrier (lapsedBefore s ns carrier)
 before s forcing e = forcedEvent (forced s)
 before s (filling b) e = filledEvent (e .lent .samples) (buffer s (e .lent .samples)) (fill s b)
+before s (queuing byte) e = queuedEvent byte (byteQueued s byte)
 
 pub record AsBefore (s : Set) (e : Event) : Type 0 where
   pub answer : e ≡ before s (e .call) e

@@ -15,8 +15,9 @@ use Rattle.schedule.specs.Bounds.{TotalBounds}
 use Rattle.passage.specs.Overture.{HasLength}
 use Rattle.set.specs.declared.Set.{Set}
 use Rattle.set.specs.Refusals.{refusalNumber, Declined}
-use Rattle.set.specs.Book.{Call, Book, overture, lengthOf, Entry, declined, asks, fills, entryOf, declinedWith, keyAnswered, entered}
+use Rattle.set.specs.Book.{Call, Book, overture, lengthOf, Entry, declined, asks, fills, queues, entryOf, declinedWith, keyAnswered, entered}
 use Rattle.set.specs.Event.{Event, Unchanged}
+use Rattle.claim.specs.Sent.{Sent, nothingSent, sentQueued, sentFilled}
 
 -- ---- since the last dial line
 pub record SinceDial : Type 0 where
@@ -29,9 +30,14 @@ pub record SinceDial : Type 0 where
   pub stages : List ℕ
   -- an empty fill has come since, at count = T
   pub emptied : Bool
+  -- 02, E10: what was queued, and what the sender sent
+  pub sent : Sent
 
 abbrev pub notCalled : SinceDial
-notCalled = record { called = false; joined = []; lengths = 0; stages = []; emptied = false }
+notCalled = record { called = false; joined = []; lengths = 0; stages = []; emptied = false; sent = nothingSent }
+
+abbrev pub withSent : Sent → SinceDial → SinceDial
+withSent sent h = record { called = h .called; joined = h .joined; lengths = h .lengths; stages = h .stages; emptied = h .emptied; sent = sent }
 
 -- a stage is shown while the line is not up
 abbrev pub seen : SessionState → ℕ → List ℕ → List ℕ
@@ -42,15 +48,15 @@ seen Connected stage stages = stages
 
 abbrev pub passed : SessionState → ℕ → SinceDial → SinceDial
 passed state stage h =
-    record { called = h .called; joined = h .joined; lengths = h .lengths; stages = seen state stage (h .stages); emptied = h .emptied }
+    record { called = h .called; joined = h .joined; lengths = h .lengths; stages = seen state stage (h .stages); emptied = h .emptied; sent = h .sent }
 
 abbrev pub notedControl : Control → SessionState → ℕ → SinceDial → SinceDial
 notedControl Nothing state stage h = passed state stage h
-notedControl Dial state stage h = record { called = true; joined = []; lengths = 0; stages = seen state stage []; emptied = false }
+notedControl Dial state stage h = record { called = true; joined = []; lengths = 0; stages = seen state stage []; emptied = false; sent = nothingSent }
 notedControl Answer state stage h = notCalled
 notedControl Hangup state stage h = notCalled
 
--- a fill's buffer belongs to the overture while the book is Dialling
+-- a fill's buffer belongs to the overture while the book is Dialling; 02, E10: in Connected it is the sender's
 abbrev pub notedFill : SessionState → ℕ → ℕ → Book → List Float → SessionState → ℕ → SinceDial → SinceDial
 notedFill Dialling b r k left state stage h =
     record {
@@ -59,16 +65,18 @@ notedFill Dialling b r k left state stage h =
       lengths = h .lengths + b;
       stages = seen state stage (h .stages);
       emptied = h .emptied || (eqb b 0 && eqb (k .count) (lengthOf (k .digits) r));
+      sent = h .sent;
     }
 notedFill Idle b r k left state stage h = passed state stage h
 notedFill Answering b r k left state stage h = passed state stage h
-notedFill Connected b r k left state stage h = passed state stage h
+notedFill Connected b r k left state stage h = withSent (sentFilled b (k .sending) left (h .sent)) (passed state stage h)
 
 -- by what the call comes to in the book, the book before it, the buffer that it left, and the state and the stage that the set shows after it
 abbrev pub noted : Entry → ℕ → Book → List Float → SessionState → ℕ → SinceDial → SinceDial
 noted (declined cause) r k left state stage h = passed state stage h
 noted (asks control line p) r k left state stage h = notedControl control state stage h
 noted (fills b) r k left state stage h = notedFill (k .state) b r k left state stage h
+noted (queues byte) r k left state stage h = withSent (sentQueued byte (h .sent)) (passed state stage h)
 
 abbrev pub sinceNext : ℕ → Book → SinceDial → Event → SinceDial
 sinceNext r k h e = noted (entryOf k (e .call)) r k (e .left .samples) (e .set .session .state) (e .set .session .shown) h

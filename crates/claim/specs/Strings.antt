@@ -1,4 +1,4 @@
--- Demand 3 with 02, E3: the claim about every list of calls, strings among them. "A macro in the middle of a list of calls counts as its single
+-- Demand 3 with 02, E3 and E10: the claim about every list of calls, strings among them. "A macro in the middle of a list of calls counts as its single
 -- bytes for the overture's wave, a declined one as none."
 use Prim.Native.Nat.{ℕ}
 use mathlib.Core.Path.{_≡_}
@@ -8,6 +8,7 @@ use contract.Lifetimes.{Lfts}
 use denote.Ref.{RefT, now, at-last}
 use lib.ListN.{length, take}
 use Rattle.reply.specs.Codes.{firstOf, secondOf}
+use Rattle.queue.specs.Queue.{waiting}
 use Rattle.set.specs.declared.Set.{Set}
 use Rattle.set.specs.declared.Refusal.{Refusal}
 use Rattle.set.specs.declared.TypedAll.{TypedAll}
@@ -19,6 +20,7 @@ use Rattle.set.specs.Event.{Event, typedEvent, StringEvent, stringEvent, String
 use Rattle.set.proofs.Set.feed_all.Reads as feed-all
 use Rattle.claim.specs.Trace.{Did, Trace, setAfter}
 use Rattle.claim.specs.Expand as expand
+use Rattle.claim.specs.Sent.{Sends}
 use Rattle.claim.specs.Claim.{notCalled, Reports, Answered, AllAnswered, bookAfter, sinceAfter, Played}
 
 pub data Step : Type 0 where
@@ -106,15 +108,18 @@ AllStepsAnswered r s k xs = expand.Each setOf r callsOf (StepAnswered r) s k xs
 
 -- ---- the claim about a set s that is fresh: whatever the list of calls from it
 pub record Holds (s : Set) (xs : List Step) : Type 0 where
-  pub answered : AllStepsAnswered (s .rate) s blank xs
+  pub answered : AllStepsAnswered (s .rate) s (blank (s .rate)) xs
   -- the single calls are a list of calls too, and lead to the same set
   pub singly : Trace s (allSingles s xs)
   pub same : setAfter s (allSingles s xs) ≡ lastSet s xs
   pub played :
-      sinceAfter (s .rate) blank notCalled (allSingles s xs) .called ≡ true
-      → Played (s .rate) (lastSet s xs) (bookAfter (s .rate) blank (allCalls xs) .digits)
-      (lengthOf (bookAfter (s .rate) blank (allCalls xs) .digits) (s .rate))
-      (sinceAfter (s .rate) blank notCalled (allSingles s xs))
+      sinceAfter (s .rate) (blank (s .rate)) notCalled (allSingles s xs) .called ≡ true
+      → Played (s .rate) (lastSet s xs) (bookAfter (s .rate) (blank (s .rate)) (allCalls xs) .digits)
+      (lengthOf (bookAfter (s .rate) (blank (s .rate)) (allCalls xs) .digits) (s .rate))
+      (sinceAfter (s .rate) (blank (s .rate)) notCalled (allSingles s xs))
+  -- 02, E10: whether the line is up or not
+  pub sent :
+      Sends (s .rate) (waiting (lastSet s xs .sending .queue)) (sinceAfter (s .rate) (blank (s .rate)) notCalled (allSingles s xs) .sent)
 
 abbrev pub Claim : Set → Type 0
 Claim s = (xs : List Step) → History s xs → Holds s xs

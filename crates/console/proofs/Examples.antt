@@ -3,8 +3,8 @@ use Prim.Native.String.{String}
 use mathlib.Core.Bool.{true, false}
 use mathlib.Core.Path.{_≡_, refl}
 use Rattle.console.specs.declared.lines.Call.{Call}
-use Rattle.console.specs.declared.lines.Call.the-variants.{Rate, Typed, Lapse, Fill, ForcedData, Cue, Kept, String as string, Bits, Frame, Key, Other}
-use Rattle.console.specs.Lines.{cut, fieldsOf, allDigits, valueFrom, numberIf, numberOf, also, numbersOf, fillIf, fillCall, typedIf, typedCall, lapseIf, lapseCall, cueIf, cueCall, keptIf, keptCall, bitsIf, bitsCall, stringIf, stringCall, bareCall, addedCall, oneCall, twoCall, threeCall, numbersCall, letterCall, fieldsCall, callOf}
+use Rattle.console.specs.declared.lines.Call.the-variants.{Rate, Typed, Lapse, Fill, ForcedData, Cue, Kept, String as string, Bits, Frame, Key, Queued, Other}
+use Rattle.console.specs.Lines.{cut, fieldsOf, allDigits, valueFrom, numberIf, numberOf, also, numbersOf, fillIf, fillCall, typedIf, typedCall, lapseIf, lapseCall, callIf, cueCall, keptCall, bitsCall, queueCall, stringIf, stringCall, bareCall, addedCall, oneCall, twoCall, threeCall, numbersCall, letterCall, fieldsCall, callOf}
 use Rattle.ascii.specs.Ascii.{ascii}
 
 -- a line of `wall`, and of `tap --ext`
@@ -28,9 +28,10 @@ calls : (plain "R,8000" ≡ Rate 8000)
     × (extended "B,64" ≡ Bits 64)
     × (extended "U" ≡ Frame)
     × (extended "K" ≡ Key)
+    × (extended "Q,255" ≡ Queued 255)
     × (plain "R,99999999999999999999999" ≡ Rate 4294967295)
-unfolding plain extended cut fieldsOf allDigits valueFrom numberIf numberOf also numbersOf fillIf fillCall typedIf typedCall lapseIf lapseCall cueIf cueCall keptIf keptCall bitsIf bitsCall stringIf stringCall bareCall addedCall oneCall twoCall threeCall numbersCall letterCall fieldsCall callOf
-calls = (refl, refl, refl, refl, refl, refl, refl, refl, refl, refl, refl, refl, refl, refl, refl)
+unfolding plain extended cut fieldsOf allDigits valueFrom numberIf numberOf also numbersOf fillIf fillCall typedIf typedCall lapseIf lapseCall callIf cueCall keptCall bitsCall queueCall stringIf stringCall bareCall addedCall oneCall twoCall threeCall numbersCall letterCall fieldsCall callOf
+calls = (refl, refl, refl, refl, refl, refl, refl, refl, refl, refl, refl, refl, refl, refl, refl, refl)
 
 others : (plain "" ≡ Other)
     × (plain "R," ≡ Other)
@@ -62,5 +63,8 @@ others : (plain "" ≡ Other)
     × (extended "U,0" ≡ Other)
     × (plain "K" ≡ Other)
     × (extended "K,0" ≡ Other)
-unfolding plain extended cut fieldsOf allDigits valueFrom numberIf numberOf also numbersOf fillIf fillCall typedIf typedCall lapseIf lapseCall cueIf cueCall keptIf keptCall bitsIf bitsCall stringIf stringCall bareCall addedCall oneCall twoCall threeCall numbersCall letterCall fieldsCall callOf
-others = (refl, refl, refl, refl, refl, refl, refl, refl, refl, refl, refl, refl, refl, refl, refl, refl, refl, refl, refl, refl, refl, refl, refl, refl, refl, refl, refl, refl, refl, refl)
+    × (plain "Q,65" ≡ Other)
+    × (extended "Q,256" ≡ Other)
+    × (extended "Q" ≡ Other)
+unfolding plain extended cut fieldsOf allDigits valueFrom numberIf numberOf also numbersOf fillIf fillCall typedIf typedCall lapseIf lapseCall callIf cueCall keptCall bitsCall queueCall stringIf stringCall bareCall addedCall oneCall twoCall threeCall numbersCall letterCall fieldsCall callOf
+others = (refl, refl, refl, refl, refl, refl, refl, refl, refl, refl, refl, refl, refl, refl, refl, refl, refl, refl, refl, refl, refl, refl, refl, refl, refl, refl, refl, refl, refl, refl, refl, refl, refl)

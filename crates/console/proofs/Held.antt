@@ -6,9 +6,10 @@ use mathlib.Core.Path.{_≡_, refl, ap, sym}
 use native.Mathlib.Omega.{arith}
 use borrow.Author.Tests.{ltb-true, ltb-false, lt-ltb, le-ltb, lt-leb}
 use lib.Dec.{leb, ltb}
-use Rattle.console.specs.declared.lines.Call.the-variants.{Rate, Other}
+use Rattle.console.specs.declared.lines.Call.{Call}
+use Rattle.console.specs.declared.lines.Call.the-variants.{Rate, Cue, Kept, Bits, Queued, Other}
 use Rattle.console.specs.declared.lines.Parser.{Parser}
-use Rattle.console.specs.Lines.{is, fillCall, fillIf, typedCall, typedIf, lapseCall, lapseIf, cueCall, cueIf, keptCall, keptIf, bitsCall, bitsIf, stringCall, stringIf, addedCall, oneCall, twoCall, threeCall}
+use Rattle.console.specs.Lines.{is, fillCall, fillIf, typedCall, typedIf, lapseCall, lapseIf, callIf, cueCall, keptCall, bitsCall, queueCall, stringCall, stringIf, addedCall, oneCall, twoCall, threeCall}
 use Rattle.console.specs.Parser.{largest, digitOf, commaOf, commaIf, severalOf, answerOf, answerIf}
 
 abbrev pub capped : ℕ → ℕ
@@ -54,33 +55,25 @@ fill-capped x (within e q) = rw q
 fill-capped {v} true (past e h) = rw (lt-leb (capped v) 70000 (omega arith), lt-leb v 70000 (omega arith))
 fill-capped {v} false (past e h) = rw (lt-leb (capped v) 16384 (omega arith), lt-leb v 16384 (omega arith))
 
-cue-capped : {v : ℕ} → Size v → cueCall (capped v) ≡ cueCall v
-unfolding cueCall cueIf
-cue-capped (within e q) = rw q
-cue-capped {v} (past e h) = rw (lt-leb (capped v) 255 (omega arith), lt-leb v 255 (omega arith))
+-- a number with a limit far below the largest
+limited-capped : {v : ℕ} (limit : ℕ) (call : ℕ → Call) → limit < largest → Size v → callIf (leb (capped v) limit) (call (capped v)) ≡ callIf (leb v limit) (call v)
+unfolding callIf
+limited-capped limit call small (within e q) = rw q
+limited-capped {v} limit call small (past e h) = rw (lt-leb (capped v) limit (omega arith), lt-leb v limit (omega arith))
 
-kept-capped : {v : ℕ} → Size v → keptCall (capped v) ≡ keptCall v
-unfolding keptCall keptIf
-kept-capped (within e q) = rw q
-kept-capped {v} (past e h) = rw (lt-leb (capped v) 255 (omega arith), lt-leb v 255 (omega arith))
-
-bits-capped : {v : ℕ} → Size v → bitsCall (capped v) ≡ bitsCall v
-unfolding bitsCall bitsIf
-bits-capped (within e p) = rw p
-bits-capped {v} (past e h) = rw (lt-leb (capped v) 64 (omega arith), lt-leb v 64 (omega arith))
-
-added-capped : (isC isM isB : Bool) (v : ℕ) → addedCall isC isM isB (capped v) ≡ addedCall isC isM isB v
-unfolding addedCall
-added-capped true isM isB v = cue-capped (size v)
-added-capped false true isB v = kept-capped (size v)
-added-capped false false true v = bits-capped (size v)
-added-capped false false false v = refl
+added-capped : (isC isM isB isQ : Bool) (v : ℕ) → addedCall isC isM isB isQ (capped v) ≡ addedCall isC isM isB isQ v
+unfolding addedCall cueCall keptCall bitsCall queueCall
+added-capped true isM isB isQ v = limited-capped 255 Cue (omega arith) (size v)
+added-capped false true isB isQ v = limited-capped 255 Kept (omega arith) (size v)
+added-capped false false true isQ v = limited-capped 64 Bits (omega arith) (size v)
+added-capped false false false true v = limited-capped 255 Queued (omega arith) (size v)
+added-capped false false false false v = refl
 
 one-capped : (isR isF x : Bool) (letter v : ℕ) → oneCall isR isF x letter (capped v) ≡ oneCall isR isF x letter v
 unfolding oneCall
 one-capped true isF x letter v = ap Rate (omega arith)
 one-capped false true x letter v = fill-capped x (size v)
-one-capped false false true letter v = added-capped (is "C" letter) (is "M" letter) (is "B" letter) v
+one-capped false false true letter v = added-capped (is "C" letter) (is "M" letter) (is "B" letter) (is "Q" letter) v
 one-capped false false false letter v = refl
 
 -- ---- two and three numbers

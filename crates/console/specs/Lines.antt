@@ -7,7 +7,7 @@ use mathlib.Core.List.{List, [], _∷_}
 use mathlib.Core.Option.{Option, some, none}
 use lib.Dec.{leb, ltb, eqb}
 use Rattle.console.specs.declared.lines.Call.{Call}
-use Rattle.console.specs.declared.lines.Call.the-variants.{Rate, Typed, Lapse, Fill, ForcedData, Cue, Kept, String, Bits, Frame, Key, Other}
+use Rattle.console.specs.declared.lines.Call.the-variants.{Rate, Typed, Lapse, Fill, ForcedData, Cue, Kept, String, Bits, Frame, Key, Queued, Other}
 
 -- the byte of an ASCII character
 abbrev pub is : Char → ℕ → Bool
@@ -87,29 +87,26 @@ lapseIf false ns carrier = Other
 unfoldable pub lapseCall : ℕ → ℕ → Call
 lapseCall ns carrier = lapseIf (ltb ns (2 ^ 64) && leb carrier 1) ns carrier
 
--- C,position: at most 255
-unfoldable pub cueIf : Bool → ℕ → Call
-cueIf true n = Cue n
-cueIf false n = Other
+-- a call of one number that has a limit
+unfoldable pub callIf : Bool → Call → Call
+callIf true call = call
+callIf false call = Other
 
+-- C,position: at most 255
 unfoldable pub cueCall : ℕ → Call
-cueCall n = cueIf (leb n 255) n
+cueCall n = callIf (leb n 255) (Cue n)
 
 -- M,byte: a byte for the string that is kept, at most 255
-unfoldable pub keptIf : Bool → ℕ → Call
-keptIf true n = Kept n
-keptIf false n = Other
-
 unfoldable pub keptCall : ℕ → Call
-keptCall n = keptIf (leb n 255) n
+keptCall n = callIf (leb n 255) (Kept n)
 
 -- B,room: the string that is kept as bits, with room for at most 64 bytes
-unfoldable pub bitsIf : Bool → ℕ → Call
-bitsIf true n = Bits n
-bitsIf false n = Other
-
 unfoldable pub bitsCall : ℕ → Call
-bitsCall n = bitsIf (leb n 64) n
+bitsCall n = callIf (leb n 64) (Bits n)
+
+-- Q,byte: a byte for the sender, at most 255
+unfoldable pub queueCall : ℕ → Call
+queueCall n = callIf (leb n 255) (Queued n)
 
 -- S,carrier,outbox,codes: a carrier flag 0 or 1, buffers at most 1,200 long
 unfoldable pub stringIf : Bool → ℕ → ℕ → ℕ → Call
@@ -119,7 +116,7 @@ stringIf false carrier outbox codes = Other
 unfoldable pub stringCall : ℕ → ℕ → ℕ → Call
 stringCall carrier outbox codes = stringIf (leb carrier 1 && (leb outbox 1200 && leb codes 1200)) carrier outbox codes
 
--- D alone; R or F and one number; T or W and two, with an outbox of 16 for T; in `tap --ext` T or S and three, C, M or B and one number, and
+-- D alone; R or F and one number; T or W and two, with an outbox of 16 for T; in `tap --ext` T or S and three, C, M, B or Q and one number, and
 -- U or K alone
 unfoldable pub bareCall : Bool → Bool → Bool → Call
 bareCall true isU isK = ForcedData
@@ -127,16 +124,17 @@ bareCall false true isK = Frame
 bareCall false false true = Key
 bareCall false false false = Other
 
-unfoldable pub addedCall : Bool → Bool → Bool → ℕ → Call
-addedCall true isM isB n = cueCall n
-addedCall false true isB n = keptCall n
-addedCall false false true n = bitsCall n
-addedCall false false false n = Other
+unfoldable pub addedCall : Bool → Bool → Bool → Bool → ℕ → Call
+addedCall true isM isB isQ n = cueCall n
+addedCall false true isB isQ n = keptCall n
+addedCall false false true isQ n = bitsCall n
+addedCall false false false true n = queueCall n
+addedCall false false false false n = Other
 
 unfoldable pub oneCall : Bool → Bool → Bool → ℕ → ℕ → Call
 oneCall true isF extended letter n = rateCall n
 oneCall false true extended letter n = fillCall extended n
-oneCall false false true letter n = addedCall (is "C" letter) (is "M" letter) (is "B" letter) n
+oneCall false false true letter n = addedCall (is "C" letter) (is "M" letter) (is "B" letter) (is "Q" letter) n
 oneCall false false false letter n = Other
 
 unfoldable pub twoCall : Bool → Bool → ℕ → ℕ → Call

@@ -6,7 +6,7 @@ ghost use mathlib.Core.Bool.{Bool, _&&_};
 ghost use mathlib.Core.List.{List, []};
 ghost use Prim.Native.Nat.{ℕ, _+_, _*_, min};
 ghost use lib.Dec.{ltb};
-ghost use Rattle.console.specs.Lines.{callOf, is, bareCall, oneCall, addedCall, twoCall, threeCall, rateCall, fillCall, cueCall, keptCall, bitsCall, stringCall, typedCall, lapseCall, longestOf};
+ghost use Rattle.console.specs.Lines.{callOf, is, bareCall, oneCall, addedCall, twoCall, threeCall, rateCall, fillCall, cueCall, keptCall, bitsCall, queueCall, stringCall, typedCall, lapseCall, longestOf};
 ghost use Rattle.console.specs.Parser.{largest, spoiledOf, letterOf, digitOf, commaOf, nextOf, pushedOf, answerOf, parsedOf, readOf};
 
 // What a line asks for. A line that is none of these is `Other`.
@@ -40,6 +40,8 @@ pub enum Call {
     Frame,
     // The key that the last fill answered.
     Key,
+    // A byte is queued for the sender.
+    Queued(u8),
     Other,
 }
 
@@ -273,7 +275,7 @@ fn one(extended: bool, letter: u8, number: u64) -> Call
 
 // The lines of one number that `tap --ext` adds.
 fn added(letter: u8, number: u64) -> Call
-    ensures { λ r. ⌜ r ≡ addedCall (is "C" letter) (is "M" letter) (is "B" letter) number ⌝ }
+    ensures { λ r. ⌜ r ≡ addedCall (is "C" letter) (is "M" letter) (is "B" letter) (is "Q" letter) number ⌝ }
 {
     if letter == b'C' {
         return cue(number);
@@ -283,6 +285,9 @@ fn added(letter: u8, number: u64) -> Call
     }
     if letter == b'B' {
         return bits(number);
+    }
+    if letter == b'Q' {
+        return queue(number);
     }
     Call::Other
 }
@@ -353,6 +358,15 @@ fn bits(room: u64) -> Call
 {
     if room <= 64 {
         return Call::Bits(room as usize);
+    }
+    Call::Other
+}
+
+fn queue(number: u64) -> Call
+    ensures { λ r. ⌜ r ≡ queueCall number ⌝ }
+{
+    if number <= 255 {
+        return Call::Queued(number as u8);
     }
     Call::Other
 }

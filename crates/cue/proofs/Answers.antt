@@ -23,6 +23,7 @@ use Rattle.at.specs.Processor.{fresh}
 use Rattle.at.proofs.Sound.{sound-fresh}
 use Rattle.session.specs.Session.{stateNumber, digitsHeld, dialling}
 use Rattle.control.specs.Control.{controlled}
+use Rattle.sender.specs.Sender.{freshSending}
 use Rattle.set.specs.declared.Set.{Set}
 use Rattle.set.specs.Sound.{sound}
 use Rattle.set.specs.Set.{freshSet, moved}
@@ -86,7 +87,7 @@ module _ (s : Set) (p : ℕ) (answer : Cued) (d : cue.Learnt tt (s, (p, tt)) ans
 
 -- a call to 12
 abbrev pub call-12 : Set
-call-12 = moved (freshSet 8000) fresh (dialling (ascii "12") 8000)
+call-12 = moved (freshSet 8000) fresh (dialling (ascii "12") 8000) (freshSending 8000)
 
 sound-12 : sound call-12 ≡ true
 unfolding controlled rateOk

@@ -14,7 +14,7 @@ use Rattle.reply.specs.Codes.{firstOf, secondOf}
 use Rattle.reply.specs.Texts.{textOf}
 use Rattle.set.specs.declared.Set.{Set}
 use Rattle.set.specs.Refusals.{refusalNumber}
-use Rattle.set.specs.Set.{s12Of, made, typed, outbox, lapsed, forced, fill, buffer, rung}
+use Rattle.set.specs.Set.{s12Of, made, typed, outbox, lapsed, forced, byteQueued, fill, buffer, rung}
 use Rattle.set.specs.String.{typedAll, outboxAll, codesAll}
 use Rattle.cue.specs.Cue.{cueRefusalNumber, cued}
 use Rattle.passage.specs.Overture.{HasLength}
@@ -26,6 +26,7 @@ use Rattle.gibbonplate.proofs.gibbonplate_feed_in.Reads as feed-in
 use Rattle.gibbonplate.proofs.gibbonplate_feed_all_in.Reads as feed-all-in
 use Rattle.gibbonplate.proofs.gibbonplate_advance_time_in.Reads as advance-time-in
 use Rattle.gibbonplate.proofs.gibbonplate_force_data_mode_in.Reads as force-data-mode-in
+use Rattle.gibbonplate.proofs.gibbonplate_queue_byte_in.Reads as queue-byte-in
 use Rattle.gibbonplate.proofs.gibbonplate_process_out_in.Reads as process-out-in
 use Rattle.gibbonplate.proofs.gibbonplate_ring_in.Reads as ring-in
 use Rattle.gibbonplate.proofs.gibbonplate_cue_in.Reads as cue-in
@@ -36,75 +37,81 @@ use Rattle.gibbonplate.proofs.gibbonplate_stage_samples.Reads as stage-
 use Rattle.gibbonplate.proofs.gibbonplate_total_samples.Reads as total-samples
 
 -- ---- the set's calls: memory before and after, and what else is lent
-module _ (longs counts : RefT (List ℕ)) (reals : RefT (List Float)) (marks line keys : RefT (List ℕ)) where
+module _ (longs counts : RefT (List ℕ)) (reals : RefT (List Float)) (marks line keys queue : RefT (List ℕ)) where
   abbrev was : Memory
-  was = memory (now longs) (now counts) (now reals) (now marks) (now line) (now keys)
+  was = memory (now longs) (now counts) (now reals) (now marks) (now line) (now keys) (now queue)
 
   abbrev s : Set
   s = loaded was
 
-  module _ (longs1 counts1 : List ℕ) (reals1 : List Float) (marks1 line1 keys1 : List ℕ) (number : ℕ) where
+  module _ (longs1 counts1 : List ℕ) (reals1 : List Float) (marks1 line1 keys1 queue1 : List ℕ) (number : ℕ) where
     abbrev is : Memory
-    is = memory longs1 counts1 reals1 marks1 line1 keys1
+    is = memory longs1 counts1 reals1 marks1 line1 keys1 queue1
 
-    pub new-call : (κs : Lfts 6) (rate : ℕ)
-        → new-in.Learnt κs (longs, (counts, (reals, (marks, (line, (keys, (rate, tt))))))) number
-        (at-last longs longs1, (at-last counts counts1, (at-last reals reals1, (at-last marks marks1, (at-last line line1, (at-last keys keys1, (rate, tt)))))))
+    pub new-call : (κs : Lfts 7) (rate : ℕ)
+        → new-in.Learnt κs (longs, (counts, (reals, (marks, (line, (keys, (queue, (rate, tt)))))))) number
+        (at-last longs longs1, (at-last counts counts1, (at-last reals reals1, (at-last marks marks1, (at-last line line1, (at-last keys keys1, (at-last queue queue1, (rate, tt))))))))
         → (number ≡ refusalNumber (made rate .refusal)) × (is ≡ stored (made rate .set))
     new-call κs rate d = (d .refusal, d .memory)
 
-    pub feed-call : (κs : Lfts 9) (byte : ℕ) (carrier : Bool) (out codes : RefT (List ℕ)) (sent : RefT ℕ) (left given : List ℕ) (count : ℕ)
-        → feed-in.Learnt κs (longs, (counts, (reals, (marks, (line, (keys, (byte, (carrier, (out, (codes, (sent, tt))))))))))) number
-        (at-last longs longs1, (at-last counts counts1, (at-last reals reals1, (at-last marks marks1, (at-last line line1, (at-last keys keys1, (byte, (carrier, (at-last out left, (at-last codes given, (at-last sent count, tt)))))))))))
+    pub feed-call : (κs : Lfts 10) (byte : ℕ) (carrier : Bool) (out codes : RefT (List ℕ)) (sent : RefT ℕ) (left given : List ℕ) (count : ℕ)
+        → feed-in.Learnt κs (longs, (counts, (reals, (marks, (line, (keys, (queue, (byte, (carrier, (out, (codes, (sent, tt)))))))))))) number
+        (at-last longs longs1, (at-last counts counts1, (at-last reals reals1, (at-last marks marks1, (at-last line line1, (at-last keys keys1, (at-last queue queue1, (byte, (carrier, (at-last out left, (at-last codes given, (at-last sent count, tt))))))))))))
         → let answer = typed s byte carrier (length (now out)) in
         (number ≡ refusalNumber (answer .refusal)) × (is ≡ kept number (answer .set) was) × (left ≡ outbox s byte (now out))
         × (given ≡ firstOf (answer .reply) ∷ secondOf (answer .reply) ∷ []) × (count ≡ answer .sent)
     feed-call κs byte carrier out codes sent left given count d = (d .refusal, d .memory, d .outbox, d .codes, d .sent)
 
-    pub string-call : (κs : Lfts 10) (bytes : RefT (List ℕ)) (carrier : Bool) (out codes : RefT (List ℕ)) (sent : RefT ℕ) (left given : List ℕ) (count : ℕ)
-        → feed-all-in.Learnt κs (longs, (counts, (reals, (marks, (line, (keys, (bytes, (carrier, (out, (codes, (sent, tt))))))))))) number
-        (at-last longs longs1, (at-last counts counts1, (at-last reals reals1, (at-last marks marks1, (at-last line line1, (at-last keys keys1, (bytes, (carrier, (at-last out left, (at-last codes given, (at-last sent count, tt)))))))))))
+    pub string-call : (κs : Lfts 11) (bytes : RefT (List ℕ)) (carrier : Bool) (out codes : RefT (List ℕ)) (sent : RefT ℕ) (left given : List ℕ) (count : ℕ)
+        → feed-all-in.Learnt κs (longs, (counts, (reals, (marks, (line, (keys, (queue, (bytes, (carrier, (out, (codes, (sent, tt)))))))))))) number
+        (at-last longs longs1, (at-last counts counts1, (at-last reals reals1, (at-last marks marks1, (at-last line line1, (at-last keys keys1, (at-last queue queue1, (bytes, (carrier, (at-last out left, (at-last codes given, (at-last sent count, tt))))))))))))
         → let answer = typedAll s (now bytes) carrier (length (now out)) (length (now codes)) in
         (number ≡ refusalNumber (answer .refusal)) × (is ≡ kept number (answer .set) was)
         × (left ≡ outboxAll s (now bytes) carrier (now out) (length (now codes)))
         × (given ≡ codesAll s (now bytes) carrier (length (now out)) (now codes)) × (count ≡ answer .sent)
     string-call κs bytes carrier out codes sent left given count d = (d .refusal, d .memory, d .outbox, d .codes, d .sent)
 
-    pub time-call : (κs : Lfts 7) (ns : ℕ) (carrier : Bool) (codes : RefT (List ℕ)) (given : List ℕ)
-        → advance-time-in.Learnt κs (longs, (counts, (reals, (marks, (line, (keys, (ns, (carrier, (codes, tt))))))))) number
-        (at-last longs longs1, (at-last counts counts1, (at-last reals reals1, (at-last marks marks1, (at-last line line1, (at-last keys keys1, (ns, (carrier, (at-last codes given, tt)))))))))
+    pub time-call : (κs : Lfts 8) (ns : ℕ) (carrier : Bool) (codes : RefT (List ℕ)) (given : List ℕ)
+        → advance-time-in.Learnt κs (longs, (counts, (reals, (marks, (line, (keys, (queue, (ns, (carrier, (codes, tt)))))))))) number
+        (at-last longs longs1, (at-last counts counts1, (at-last reals reals1, (at-last marks marks1, (at-last line line1, (at-last keys keys1, (at-last queue queue1, (ns, (carrier, (at-last codes given, tt))))))))))
         → let answer = lapsed s ns carrier in
         (number ≡ refusalNumber (answer .refusal)) × (is ≡ kept number (answer .set) was)
         × (given ≡ firstOf (answer .reply) ∷ secondOf (answer .reply) ∷ [])
     time-call κs ns carrier codes given d = (d .refusal, d .memory, d .codes)
 
-    pub force-call : (κs : Lfts 6)
-        → force-data-mode-in.Learnt κs (longs, (counts, (reals, (marks, (line, (keys, tt)))))) number
-        (at-last longs longs1, (at-last counts counts1, (at-last reals reals1, (at-last marks marks1, (at-last line line1, (at-last keys keys1, tt))))))
+    pub force-call : (κs : Lfts 7)
+        → force-data-mode-in.Learnt κs (longs, (counts, (reals, (marks, (line, (keys, (queue, tt))))))) number
+        (at-last longs longs1, (at-last counts counts1, (at-last reals reals1, (at-last marks marks1, (at-last line line1, (at-last keys keys1, (at-last queue queue1, tt)))))))
         → (number ≡ refusalNumber (forced s .refusal)) × (is ≡ kept number (forced s .set) was)
     force-call κs d = (d .refusal, d .memory)
 
-    pub fill-call : (κs : Lfts 8) (samples : RefT (List Float)) (key : RefT (List ℕ)) (left : List Float) (lights : List ℕ)
-        → process-out-in.Learnt κs (longs, (counts, (reals, (marks, (line, (keys, (samples, (key, tt)))))))) number
-        (at-last longs longs1, (at-last counts counts1, (at-last reals reals1, (at-last marks marks1, (at-last line line1, (at-last keys keys1, (at-last samples left, (at-last key lights, tt))))))))
+    pub queue-call : (κs : Lfts 7) (byte : ℕ)
+        → queue-byte-in.Learnt κs (longs, (counts, (reals, (marks, (line, (keys, (queue, (byte, tt)))))))) number
+        (at-last longs longs1, (at-last counts counts1, (at-last reals reals1, (at-last marks marks1, (at-last line line1, (at-last keys keys1, (at-last queue queue1, (byte, tt))))))))
+        → (number ≡ refusalNumber (byteQueued s byte .refusal)) × (is ≡ kept number (byteQueued s byte .set) was)
+    queue-call κs byte d = (d .refusal, d .memory)
+
+    pub fill-call : (κs : Lfts 9) (samples : RefT (List Float)) (key : RefT (List ℕ)) (left : List Float) (lights : List ℕ)
+        → process-out-in.Learnt κs (longs, (counts, (reals, (marks, (line, (keys, (queue, (samples, (key, tt))))))))) number
+        (at-last longs longs1, (at-last counts counts1, (at-last reals reals1, (at-last marks marks1, (at-last line line1, (at-last keys keys1, (at-last queue queue1, (at-last samples left, (at-last key lights, tt)))))))))
         → let answer = fill s (length (now samples)) in
         (number ≡ refusalNumber (answer .refusal)) × (is ≡ kept number (answer .set) was) × (left ≡ buffer s (now samples))
         × (lights ≡ keyNumbers (answer .key))
     fill-call κs samples key left lights d = (d .refusal, d .memory, d .samples, d .key)
 
   -- those that only read it
-  pub ring-call : (κs : Lfts 7) (ring : RefT ℕ) (value number : ℕ)
-      → ring-in.Learnt κs (longs, (counts, (reals, (marks, (line, (keys, (ring, tt))))))) number (longs, (counts, (reals, (marks, (line, (keys, (at-last ring value, tt)))))))
+  pub ring-call : (κs : Lfts 8) (ring : RefT ℕ) (value number : ℕ)
+      → ring-in.Learnt κs (longs, (counts, (reals, (marks, (line, (keys, (queue, (ring, tt)))))))) number (longs, (counts, (reals, (marks, (line, (keys, (queue, (at-last ring value, tt))))))))
       → (number ≡ refusalNumber (rung s .refusal)) × (value ≡ rung s .ring)
   ring-call κs ring value number d = (d .refusal, d .ring)
 
-  pub cue-call : (κs : Lfts 8) (position : ℕ) (sample : RefT ℕ) (key : RefT (List ℕ)) (value : ℕ) (lights : List ℕ) (number : ℕ)
-      → cue-in.Learnt κs (longs, (counts, (reals, (marks, (line, (keys, (position, (sample, (key, tt))))))))) number
-      (longs, (counts, (reals, (marks, (line, (keys, (position, (at-last sample value, (at-last key lights, tt)))))))))
+  pub cue-call : (κs : Lfts 9) (position : ℕ) (sample : RefT ℕ) (key : RefT (List ℕ)) (value : ℕ) (lights : List ℕ) (number : ℕ)
+      → cue-in.Learnt κs (longs, (counts, (reals, (marks, (line, (keys, (queue, (position, (sample, (key, tt)))))))))) number
+      (longs, (counts, (reals, (marks, (line, (keys, (queue, (position, (at-last sample value, (at-last key lights, tt))))))))))
       → (number ≡ cueRefusalNumber (cued s position .refusal)) × (value ≡ cued s position .sample) × (lights ≡ keyNumbers (cued s position .key))
   cue-call κs position sample key value lights number d = (d .refusal, d .sample, d .key)
 
-  pub s12-is : (κs : Lfts 6) (answer : ℕ) → s12-in.Learnt κs (longs, (counts, (reals, (marks, (line, (keys, tt)))))) answer (longs, (counts, (reals, (marks, (line, (keys, tt)))))) → answer ≡ s12Of s
+  pub s12-is : (κs : Lfts 7) (answer : ℕ) → s12-in.Learnt κs (longs, (counts, (reals, (marks, (line, (keys, (queue, tt))))))) answer (longs, (counts, (reals, (marks, (line, (keys, (queue, tt))))))) → answer ≡ s12Of s
   s12-is κs answer d = d
 
 -- 02, E6: the writer of replies is handed S12

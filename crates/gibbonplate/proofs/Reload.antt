@@ -66,6 +66,7 @@ back s stage-back =
       flag-back (seen (s .processor)),
       flag-back (plain (s .session .stage) .tone),
       flag-back (ranOver (lineOf (s .processor))),
+      flag-back (s .sending .sender .edge),
       state-back (s .session .state),
       stage-back,
     )
@@ -81,6 +82,7 @@ reload s stage-back =
       stage-range (s .session .stage) .1,
       flag-low (plain (s .session .stage) .tone),
       flag-low (ranOver (lineOf (s .processor))),
+      flag-low (s .sending .sender .edge),
     )
     (back s stage-back)
 
@@ -88,13 +90,14 @@ reload s stage-back =
 pub laid : (m : Memory) (s : Set) (p : PlainStage) → (p ≡ plain (s .session .stage)) × (staged p ≡ s .session .stage) → m ≡ stored s → (m ≡ stored s) × (loaded m ≡ s)
 laid m s p (is, stage-back) e = (e, ap loaded e ∙ reload s (sym (ap staged is) ∙ stage-back))
 
--- a flag of 2 is none: the mode, the carrier-seen mark, whether in tone, whether the line ran over
+-- a flag of 2 is none: the mode, the carrier-seen mark, whether in tone, whether the line ran over, whether an edge is next
 pub flags-of-2 :
     (holdsSet (2 ∷ 0 ∷ 0 ∷ 0 ∷ 0 ∷ 1 ∷ 0 ∷ 0 ∷ 0 ∷ []) ≡ false)
     × (holdsSet (0 ∷ 0 ∷ 2 ∷ 0 ∷ 0 ∷ 1 ∷ 0 ∷ 0 ∷ 0 ∷ []) ≡ false)
     × (holdsSet (0 ∷ 0 ∷ 0 ∷ 0 ∷ 0 ∷ 1 ∷ 0 ∷ 2 ∷ 0 ∷ []) ≡ false)
     × (holdsSet (0 ∷ 0 ∷ 0 ∷ 0 ∷ 0 ∷ 1 ∷ 0 ∷ 0 ∷ 2 ∷ []) ≡ false)
-flags-of-2 = (refl, refl, refl, refl)
+    × (holdsSet (0 ∷ 0 ∷ 0 ∷ 0 ∷ 0 ∷ 1 ∷ 0 ∷ 0 ∷ 0 ∷ 0 ∷ 0 ∷ 0 ∷ 2 ∷ []) ≡ false)
+flags-of-2 = (refl, refl, refl, refl, refl)
 
 pub no-set : sound (freshSet 0) ≡ false
 no-set = by (sound (freshSet 0)) refl

@@ -12,7 +12,7 @@ use Rattle.keys.specs.declared.Lit.the-variants as lit
 use Rattle.reply.specs.declared.Reply.{Reply}
 use Rattle.reply.specs.Codes.{firstOf, secondOf}
 use Rattle.set.specs.Refusals.{refusalNumber}
-use Rattle.set.specs.Set.{made, typed, outbox, lapsed, forced, fill, buffer, rung}
+use Rattle.set.specs.Set.{made, typed, outbox, lapsed, forced, byteQueued, fill, buffer, rung}
 use Rattle.set.specs.String.{typedAll, outboxAll, codesAll}
 use Rattle.cue.specs.Cue.{cueRefusalNumber, cued}
 use Rattle.gibbonplate.specs.Memory.{Memory, stored, loaded, kept}
@@ -47,6 +47,11 @@ pub record TimeCall (before after : Memory) (ns : ℕ) (carrier : Bool) (given :
 pub record ForceCall (before after : Memory) (number : ℕ) : Type 0 where
   pub refusal : number ≡ refusalNumber (forced (loaded before) .refusal)
   pub memory : after ≡ kept number (forced (loaded before) .set) before
+
+-- 02, E10: a byte is queued
+pub record QueueCall (before after : Memory) (byte number : ℕ) : Type 0 where
+  pub refusal : number ≡ refusalNumber (byteQueued (loaded before) byte .refusal)
+  pub memory : after ≡ kept number (byteQueued (loaded before) byte .set) before
 
 -- 02, E8: a key in memory: its row and its column, 255 for none
 abbrev pub keyNumbers : Lit → List ℕ

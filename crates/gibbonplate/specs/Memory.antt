@@ -1,4 +1,4 @@
--- A set in memory that a C program lends: six arrays of plain numbers. 01 does not speak of it; what it owes is that loading what was
+-- A set in memory that a C program lends: seven arrays of plain numbers. 01 does not speak of it; what it owes is that loading what was
 -- stored gives the set back, and that memory which holds no set is an unsound set.
 use Prim.Native.Nat.{ℕ}
 use mathlib.Core.Bool.{Bool, true, false, _&&_, _||_, cond}
@@ -15,6 +15,7 @@ use Rattle.stage.specs.declared.StageState.the-variants as at
 use Rattle.command.specs.Line.{ranOver}
 use Rattle.at.specs.declared.AtProcessor.{AtProcessor}
 use Rattle.at.specs.Processor.{commandMode, lineOf, pluses, seen, downTime}
+use Rattle.sender.specs.declared.Sending.{Sending}
 use Rattle.session.specs.declared.SessionState.{SessionState}
 use Rattle.session.specs.declared.SessionState.the-variants.{Idle, Dialling, Answering, Connected}
 use Rattle.session.specs.Session.{stateNumber}
@@ -22,11 +23,12 @@ use Rattle.set.specs.declared.Set.{Set}
 use Rattle.set.specs.Set.{s12Of, freshSet}
 use Rattle.gibbonplate.specs.declared.plain.PlainStage.{PlainStage}
 
--- longs: the line's length, the idle time, the down time, the number of digits, the stage's own number
+-- longs: the line's length, the idle time, the down time, the number of digits, the stage's own number, the bytes waiting
 -- counts: the rate, m, the stage's samples or bits done, Cj's zeros
--- reals: two oscillators
--- marks: the mode, pluses held, the carrier-seen mark, the state, the shown stage; the stage, its ring, whether in tone; whether the line ran over; S12
--- line: its 80 bytes; keys: the 76 places of the digits
+-- reals: two oscillators; the sender's, and its symbol clock's phase and step
+-- marks: the mode, pluses held, the carrier-seen mark, the state, the shown stage; the stage, its ring, whether in tone; whether the line ran over; S12;
+--   the sender's byte, its bits begun, whether the next sample is an edge
+-- line: its 80 bytes; keys: the 76 places of the digits; queue: the 256 of the bytes that wait
 pub record Memory : Type 0 where
   pub longs : List ℕ
   pub counts : List ℕ
@@ -34,10 +36,11 @@ pub record Memory : Type 0 where
   pub marks : List ℕ
   pub line : List ℕ
   pub keys : List ℕ
+  pub queue : List ℕ
 
-abbrev pub memory : List ℕ → List ℕ → List Float → List ℕ → List ℕ → List ℕ → Memory
-memory longs counts reals marks line keys =
-    record { longs = longs; counts = counts; reals = reals; marks = marks; line = line; keys = keys }
+abbrev pub memory : List ℕ → List ℕ → List Float → List ℕ → List ℕ → List ℕ → List ℕ → Memory
+memory longs counts reals marks line keys queue =
+    record { longs = longs; counts = counts; reals = reals; marks = marks; line = line; keys = keys; queue = queue }
 
 -- ---- the state of a stage, as numbers
 abbrev pub noNco : Nco
@@ -109,19 +112,25 @@ marksOf s =
     ∷ flag (plain (s .session .stage) .tone)
     ∷ flag (ranOver (lineOf (s .processor)))
     ∷ s12Of s
+    ∷ s .sending .sender .byte
+    ∷ s .sending .sender .begun
+    ∷ flag (s .sending .sender .edge)
     ∷ []
 
 unfoldable pub stored : Set → Memory
 stored s =
     record {
-      longs = lineOf (s .processor) .len ∷ s .processor .idle ∷ downTime (s .processor) ∷ s .session .digits .len ∷ plain (s .session .stage) .own ∷ [];
+      longs = lineOf (s .processor) .len ∷ s .processor .idle ∷ downTime (s .processor) ∷ s .session .digits .len ∷ plain (s .session .stage) .own ∷ s .sending .queue .len ∷ [];
       counts = s .rate ∷ s .session .m ∷ plain (s .session .stage) .count ∷ plain (s .session .stage) .zeros ∷ [];
       reals =
           plain (s .session .stage) .a .phase ∷ plain (s .session .stage) .a .step ∷ plain (s .session .stage) .a .rate
-          ∷ plain (s .session .stage) .b .phase ∷ plain (s .session .stage) .b .step ∷ plain (s .session .stage) .b .rate ∷ [];
+          ∷ plain (s .session .stage) .b .phase ∷ plain (s .session .stage) .b .step ∷ plain (s .session .stage) .b .rate
+          ∷ s .sending .sender .modulator .nco .phase ∷ s .sending .sender .modulator .nco .step ∷ s .sending .sender .modulator .nco .rate
+          ∷ s .sending .sender .modulator .phase ∷ s .sending .sender .modulator .step ∷ [];
       marks = marksOf s;
       line = lineOf (s .processor) .bytes;
       keys = s .session .digits .keys;
+      queue = s .sending .queue .bytes;
     }
 
 -- ---- the set that memory holds
@@ -133,7 +142,8 @@ holdsSet marks =
     && (leb (getD marks 3 0) 3
     && (leb 1 (getD marks 5 0)
     && (leb (getD marks 5 0) 10
-    && (leb (getD marks 7 0) 1 && leb (getD marks 8 0) 1)))))
+    && (leb (getD marks 7 0) 1
+    && (leb (getD marks 8 0) 1 && leb (getD marks 12 0) 1))))))
 
 -- the stage is Ci, CmJm, Cj or Training, and its bits done are more than 16 bits can hold: an unsound set
 abbrev pub sendsBits : ℕ → Bool
@@ -167,6 +177,24 @@ processorIn longs marks line =
       s12 = getD marks 9 0;
     }
 
+abbrev pub sendingIn : List ℕ → List Float → List ℕ → List ℕ → Sending
+sendingIn longs reals marks queue =
+    record {
+      sender =
+          record {
+            modulator =
+                record {
+                  nco = record { phase = getD reals 6 nan; step = getD reals 7 nan; rate = getD reals 8 nan };
+                  phase = getD reals 9 nan;
+                  step = getD reals 10 nan;
+                };
+            byte = getD marks 10 0;
+            begun = getD marks 11 0;
+            edge = eqb (getD marks 12 0) 1;
+          };
+      queue = record { bytes = queue; len = getD longs 5 0 };
+    }
+
 unfoldable pub setIn : Memory → Set
 setIn m =
     record {
@@ -180,6 +208,7 @@ setIn m =
             shown = getD (m .marks) 4 0;
             stage = staged (plainIn (m .longs) (m .counts) (m .reals) (m .marks));
           };
+      sending = sendingIn (m .longs) (m .reals) (m .marks) (m .queue);
     }
 
 -- memory that holds no set is a fresh set at rate 0, which is unsound

@@ -20,8 +20,9 @@ use Rattle.set.specs.declared.TypedAll.{TypedAll}
 use Rattle.set.specs.declared.Lapsed.{Lapsed}
 use Rattle.set.specs.declared.Forced.{Forced}
 use Rattle.set.specs.declared.Filled.{Filled}
+use Rattle.set.specs.declared.Queued.{Queued}
 use Rattle.set.specs.Refusals.{refusalNumber, either, ifAccepted}
-use Rattle.set.specs.Set.{made, typed, lapsed, forced, fill}
+use Rattle.set.specs.Set.{made, typed, lapsed, forced, fill, byteQueued}
 use Rattle.set.specs.String.{typedAll}
 use Rattle.cue.specs.declared.Cued.{Cued}
 use Rattle.cue.specs.Cue.{cueRefusalNumber, cued}
@@ -94,13 +95,17 @@ frameShown false s a = nothingShown s
 abbrev pub litShown : Set → Shown
 litShown s = shownOf s 0 reply.None second.Lit true
 
+-- 02, E10: a byte that is queued has no reply, and sends nothing into the outbox
+abbrev pub queuedShown : Queued → Shown
+queuedShown a = shownOf (a .set) (refusalNumber (a .refusal)) reply.None (second.Sent 0) true
+
 -- a call that asks for more room than there is counts as another line: no line that is read does
 abbrev pub ifRoom : Bool → Set → Shown → Shown
 ifRoom true s shown = shown
 ifRoom false s shown = nothingShown s
 
--- R,rate / T,byte,carrier / W,ns,carrier / F,length / D, and of `tap --ext` C,position / M,byte / S,carrier,outbox,codes / B,room / U / K; with room for an outbox
--- of so many bytes, so many codes and so many samples, with the string that is kept, and with what the reader made of it
+-- R,rate / T,byte,carrier / W,ns,carrier / F,length / D, and of `tap --ext` C,position / M,byte / S,carrier,outbox,codes / B,room / U / K / Q,byte; with room for an
+-- outbox of so many bytes, so many codes and so many samples, with the string that is kept, and with what the reader made of it
 abbrev pub shownAfter : (bytes places samples : ℕ) (kept : List ℕ) (read : Reading) → Set → Call → Shown
 shownAfter bytes places samples kept read s (call.Rate rate) = madeShown (made rate)
 shownAfter bytes places samples kept read s (call.Typed byte carrier outbox) = ifRoom (leb outbox bytes) s (typedShown (typed s byte carrier outbox))
@@ -114,6 +119,7 @@ shownAfter bytes places samples kept read s (call.String carrier outbox codes) =
 shownAfter bytes places samples kept read s (call.Bits room) = bitsShown s read
 shownAfter bytes places samples kept read s call.Frame = frameShown (eqb (length kept) 10) s (unframeOf (marksOf kept))
 shownAfter bytes places samples kept read s call.Key = litShown s
+shownAfter bytes places samples kept read s (call.Queued byte) = queuedShown (byteQueued s byte)
 shownAfter bytes places samples kept read s call.Other = nothingShown s
 
 -- the reader that is kept: B has it read the string that is kept, with room for so many bytes; R sets it back; no other line changes it
@@ -129,6 +135,7 @@ readAfter bytes kept p (call.Kept byte) = stopped p
 readAfter bytes kept p (call.String carrier outbox codes) = stopped p
 readAfter bytes kept p call.Frame = stopped p
 readAfter bytes kept p call.Key = stopped p
+readAfter bytes kept p (call.Queued byte) = stopped p
 readAfter bytes kept p call.Other = stopped p
 
 -- the string that is kept, with room for so many bytes: M adds a byte, or passes it over; S, B and U forget it, declined or not; no other line
@@ -148,6 +155,7 @@ keptAfter room kept (call.Cue position) = kept
 keptAfter room kept (call.Bits n) = []
 keptAfter room kept call.Frame = []
 keptAfter room kept call.Key = kept
+keptAfter room kept (call.Queued byte) = kept
 keptAfter room kept call.Other = kept
 
 -- the key that is kept: that which the last fill answered; none after R

@@ -33,6 +33,7 @@ pub fn after(call: Call, place: Deframer, string: &[u8], out: &mut [u8]) -> Read
         } => still(place),
         Call::Frame => still(place),
         Call::Key => still(place),
+        Call::Queued(_) => still(place),
         Call::Other => still(place),
     }
 }

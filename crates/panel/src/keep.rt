@@ -41,6 +41,7 @@ pub fn after(call: Call, kept: usize, string: &mut [u8]) -> usize
         Call::Bits(_) => 0,
         Call::Frame => 0,
         Call::Key => kept,
+        Call::Queued(_) => kept,
         Call::Other => kept,
     }
 }

@@ -13,13 +13,13 @@ ghost use mathlib.Core.Bool.{true, _&&_};
 ghost use lib.Dec.{leb, eqb};
 ghost use lib.ListN.{length};
 ghost use Rattle.text.specs.Text.{pageOf, addOf};
-ghost use Rattle.set.specs.Set.{made, typed, lapsed, forced, fill};
+ghost use Rattle.set.specs.Set.{made, typed, lapsed, forced, fill, byteQueued};
 ghost use Rattle.set.specs.Refusals.{either};
 ghost use Rattle.set.specs.String.{typedAll};
 ghost use Rattle.deframe.specs.Read.{marksOf};
 ghost use Rattle.deframe.specs.Unframe.{unframeOf};
 ghost use Rattle.cue.specs.Cue.{cued};
-ghost use Rattle.panel.specs.Wall.{shownOf, nothingShown, madeShown, typedShown, lapsedShown, forcedShown, filledShown, cuedShown, stringShown, bitsShown, frameShown, litShown, ifRoom, shownAfter, lineOf};
+ghost use Rattle.panel.specs.Wall.{shownOf, nothingShown, madeShown, typedShown, lapsedShown, forcedShown, filledShown, cuedShown, stringShown, bitsShown, frameShown, litShown, queuedShown, ifRoom, shownAfter, lineOf};
 
 // What `tap`'s second line tells of a call.
 pub enum Second {
@@ -80,6 +80,7 @@ pub fn after(
         Call::Bits(_) => bits_read(set, reading),
         Call::Frame => framed(set, string),
         Call::Key => lit(set),
+        Call::Queued(byte) => queued(set, byte),
         Call::Other => nothing(set),
     }
 }
@@ -292,6 +293,16 @@ fn lit(set: Set) -> Shown
     ensures { λ r. ⌜ r ≡ litShown set ⌝ }
 {
     show(set, 0, Reply::None, Second::Lit, true)
+}
+
+// It sends nothing now: the byte is heard once the line is up.
+fn queued(set: Set, byte: u8) -> Shown
+    ensures { λ r. ⌜ r ≡ queuedShown (byteQueued set byte) ⌝ }
+{
+    let a = set.queue_byte(byte);
+    let next = a.set;
+    let refusal = a.refusal;
+    show(next, refusal.number(), Reply::None, Second::Sent(0), true)
 }
 
 fn nothing(set: Set) -> Shown

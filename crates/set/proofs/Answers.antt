@@ -21,11 +21,12 @@ use Rattle.set.specs.declared.TypedAll.{TypedAll}
 use Rattle.set.specs.declared.Lapsed.{Lapsed}
 use Rattle.set.specs.declared.Forced.{Forced}
 use Rattle.set.specs.declared.Filled.{Filled}
+use Rattle.set.specs.declared.Queued.{Queued}
 use Rattle.set.specs.declared.Rung.{Rung}
 use Rattle.set.specs.Refusals.{Declined}
-use Rattle.set.specs.Set.{s12Of, freshSet, creationCause, made, typingCause, typed, outbox, lapseCause, lapsed, forcedCause, forced, fillCause, fill, buffer, ringCause, rung}
+use Rattle.set.specs.Set.{s12Of, freshSet, creationCause, made, typingCause, typed, outbox, lapseCause, lapsed, forcedCause, forced, fillCause, fill, buffer, queuingCause, byteQueued, ringCause, rung}
 use Rattle.set.specs.String.{stringCause, typedAll, outboxAll, codesAll}
-use Rattle.set.specs.Event.{outboxOf, bufferOf, typedEvent, lapsedEvent, forcedEvent, filledEvent, ByCause, stringEvent, StringByCause}
+use Rattle.set.specs.Event.{outboxOf, bufferOf, typedEvent, lapsedEvent, forcedEvent, filledEvent, queuedEvent, ByCause, stringEvent, StringByCause}
 use Rattle.set.proofs.Unchanged.{unchanged}
 use Rattle.set.proofs.Set.new.Reads as new
 use Rattle.set.proofs.Set.feed.Reads as feed
@@ -33,6 +34,7 @@ use Rattle.set.proofs.Set.feed_all.Reads as feed-all
 use Rattle.set.proofs.Set.advance_time.Reads as advance-time
 use Rattle.set.proofs.Set.force_data_mode.Reads as force-data-mode
 use Rattle.set.proofs.Set.process_out.Reads as process-out
+use Rattle.set.proofs.Set.queue_byte.Reads as queue-byte
 use Rattle.set.proofs.Set.ring_number.Reads as ring-number
 use Rattle.set.proofs.Set.in_command_mode.Reads as in-command-mode
 use Rattle.set.proofs.Set.state.Reads as state
@@ -125,6 +127,16 @@ module _ (s : Set) where
               sent = refl;
               key = unchanged _ declined _ lit.None;
             };
+      })
+
+  pub queue-byte-answers : (byte : ℕ) (answer : Queued) → queue-byte.Learnt tt (s, (byte, tt)) answer (s, (byte, tt))
+      → ByCause s (queuingCause s) (queuedEvent byte answer)
+  unfolding byteQueued
+  queue-byte-answers byte answer d =
+      let told : answer ≡ byteQueued s byte = d in
+      rw told (record {
+        refusal = refl;
+        unchanged = λ declined. record { set = unchanged _ declined _ s; lent = refl; reply = refl; sent = refl; key = refl };
       })
 
   pub ring-number-answers : (answer : Rung) → ring-number.Learnt tt (s, tt) answer (s, tt)

@@ -11,7 +11,7 @@ use Rattle.at.proofs.Before as processor
 use Rattle.control.specs.Control.{heard}
 use Rattle.set.specs.declared.Set.{Set}
 use Rattle.set.specs.Refusals.{accepted, either}
-use Rattle.set.specs.Set.{s12Of, typingCause, typed, byteTaken, outbox, lapseCause, timeTaken, lapsed, forcedCause, forced, fillCause, fill}
+use Rattle.set.specs.Set.{s12Of, typingCause, typed, byteTaken, outbox, lapseCause, timeTaken, lapsed, forcedCause, forced, fillCause, fill, queuingCause, byteQueued}
 use Rattle.set.specs.Before.{typedBefore, outboxBefore, lapsedBefore}
 
 module _ (s : Set) (e : s12Of s ≡ freshS12) where
@@ -56,3 +56,7 @@ module _ (s : Set) where
   pub fill-keeps-s12 : (b : ℕ) → s12Of (fill s b .set) ≡ s12Of s
   unfolding fill
   fill-keeps-s12 b = same-if (accepted (fillCause s b)) _ refl
+
+  pub queued-keeps-s12 : (byte : ℕ) → s12Of (byteQueued s byte .set) ≡ s12Of s
+  unfolding byteQueued
+  queued-keeps-s12 byte = same-if (accepted (queuingCause s)) _ refl

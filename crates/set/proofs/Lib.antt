@@ -5,6 +5,7 @@ pub mod Soundness
 pub mod String
 pub mod Unchanged
 pub mod Answers
+pub mod Up
 pub mod Follows
 pub mod Steps
 pub mod Cases

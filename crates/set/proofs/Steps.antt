@@ -1,5 +1,6 @@
 -- What the contract of each call tells, made on a set that follows the book: the set that comes back follows the book's next entry, and is
--- sound; number and key are the book's; a declined call changes nothing; and a fill in Dialling writes the overture on. Assumes nothing.
+-- sound; number and key are the book's; a declined call changes nothing; and a fill in Dialling writes the overture on, one
+-- in Connected what the sender plays. Assumes nothing.
 use Prim.Native.Nat.{ℕ}
 use mathlib.Core.Path.{_≡_}
 use mathlib.Core.Bool.{Bool}
@@ -13,16 +14,18 @@ use Rattle.set.specs.declared.Typed.{Typed}
 use Rattle.set.specs.declared.Lapsed.{Lapsed}
 use Rattle.set.specs.declared.Forced.{Forced}
 use Rattle.set.specs.declared.Filled.{Filled}
+use Rattle.set.specs.declared.Queued.{Queued}
 use Rattle.set.specs.Refusals.{Declined}
-use Rattle.set.specs.Set.{typed, lapsed, forced, fill, buffer}
+use Rattle.set.specs.Set.{typed, lapsed, forced, fill, buffer, byteQueued}
 use Rattle.set.specs.Book.{Book, entryOf}
-use Rattle.set.specs.Event.{Event, typedEvent, lapsedEvent, forcedEvent, filledEvent, Unchanged}
-use Rattle.set.proofs.Answers.{feed-answers, advance-time-answers, force-data-mode-answers, process-out-answers}
-use Rattle.set.proofs.Follows.{Effect, Invariant, typing-effect, time-effect, forcing-effect, filling-effect}
+use Rattle.set.specs.Event.{Event, typedEvent, lapsedEvent, forcedEvent, filledEvent, queuedEvent, Unchanged}
+use Rattle.set.proofs.Answers.{feed-answers, advance-time-answers, force-data-mode-answers, process-out-answers, queue-byte-answers}
+use Rattle.set.proofs.Follows.{Effect, Invariant, typing-effect, time-effect, forcing-effect, filling-effect, queuing-effect}
 use Rattle.set.proofs.Set.feed.Reads as feed
 use Rattle.set.proofs.Set.advance_time.Reads as advance-time
 use Rattle.set.proofs.Set.force_data_mode.Reads as force-data-mode
 use Rattle.set.proofs.Set.process_out.Reads as process-out
+use Rattle.set.proofs.Set.queue_byte.Reads as queue-byte
 
 pub record Stepped (r : ℕ) (k : Book) (s : Set) (e : Event) : Type 0 where
   pub effect : Effect r k (entryOf k (e .call)) (e .set) (e .refusal) (e .key) (e .left .samples)
@@ -59,3 +62,8 @@ module _ (r : ℕ) (k : Book) (s : Set) (inv : Invariant r k s) where
         effect = rw (told, wrote) (filling-effect r k s inv (now out));
         unchanged = process-out-answers s κs out left answer d .unchanged;
       }
+
+  pub queue-byte-steps : (byte : ℕ) (answer : Queued) → queue-byte.Learnt tt (s, (byte, tt)) answer (s, (byte, tt)) → Stepped r k s (queuedEvent byte answer)
+  queue-byte-steps byte answer d =
+      let told : answer ≡ byteQueued s byte = d in
+      record { effect = rw told (queuing-effect r k s inv byte); unchanged = queue-byte-answers s byte answer d .unchanged }

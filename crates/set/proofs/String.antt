@@ -23,7 +23,7 @@ use Rattle.set.specs.declared.Typed.{Typed}
 use Rattle.set.specs.declared.Refusal.the-variants.{Accepted}
 use Rattle.set.specs.Refusals.{causeOfString, accepted}
 use Rattle.set.specs.Sound.{sound}
-use Rattle.set.specs.Set.{s12Of, moved, typingCause, byteTyped, typed, outbox}
+use Rattle.set.specs.Set.{s12Of, moved, sendingFor, typingCause, byteTyped, typed, outbox}
 use Rattle.set.specs.String.{four, setBy, putBy, sentBy, codesBy, stringCause, atFront}
 use Rattle.set.proofs.Ranges.{ranges}
 use Rattle.set.proofs.Soundness.{byte-sound}
@@ -37,7 +37,7 @@ module _ (s : Set) (ok : sound s ≡ true) (byte : ℕ) (carrier : Bool) where
   good = ranges s ok .processor
 
   abbrev typedOf : Fed → ByteTyped
-  typedOf fed = record { set = moved s (fed .processor) (controlled (fed .control) (s .session) (afterAtdt fed) (s .rate)); reply = fed .reply; sent = fed .sent }
+  typedOf fed = record { set = moved s (fed .processor) (controlled (fed .control) (s .session) (afterAtdt fed) (s .rate)) (sendingFor (fed .control) (s .sending)); reply = fed .reply; sent = fed .sent }
 
   pub taken-alike : (n : ℕ) → 4 ≤ n → byteTyped s byte carrier n ≡ byteTyped s byte carrier 4
   taken-alike n l = ap typedOf (room-alike (s .processor) good byte (heard (s .session) carrier) n l)

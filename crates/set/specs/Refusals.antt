@@ -1,21 +1,21 @@
--- 01, "When a call is declined": its table. The causes of each call in the order in which they are checked, and their numbers; 0 for none. 02, E1:
--- number 4 never occurs.
+-- 01, "When a call is declined": its table. The causes of each call in the order in which they are checked, and their numbers; 0 for none. 02, E1 and
+-- E10: numbers 4 and 5 never occur.
 use Prim.Native.Nat.{ℕ}
 use mathlib.Core.Path.{_≡_}
 use mathlib.Core.Bool.{Bool, true, false}
 use lib.Dec.{eqb}
 use Rattle.set.specs.declared.Refusal.{Refusal}
-use Rattle.set.specs.declared.Refusal.the-variants.{Accepted, Rate, Outbox, Length, Connected, Unsound, StringLength, StringRoom}
+use Rattle.set.specs.declared.Refusal.the-variants.{Accepted, Rate, Outbox, Length, Unsound, StringLength, StringRoom, QueueFull}
 
 abbrev pub refusalNumber : Refusal → ℕ
 refusalNumber Accepted = 0
 refusalNumber Rate = 1
 refusalNumber Outbox = 2
 refusalNumber Length = 3
-refusalNumber Connected = 5
 refusalNumber Unsound = 6
 refusalNumber StringLength = 8
 refusalNumber StringRoom = 9
+refusalNumber QueueFull = 12
 
 -- creation: 1
 abbrev pub causeOfCreation : (limits : Bool) → Refusal
@@ -33,12 +33,11 @@ causeOfTyping false room = Unsound
 causeOfTyping true false = Outbox
 causeOfTyping true true = Accepted
 
--- a fill: 6, 3, 5
-abbrev pub causeOfFill : (ok long up : Bool) → Refusal
-causeOfFill false long up = Unsound
-causeOfFill true true up = Length
-causeOfFill true false true = Connected
-causeOfFill true false false = Accepted
+-- a fill: 6, 3
+abbrev pub causeOfFill : (ok long : Bool) → Refusal
+causeOfFill false long = Unsound
+causeOfFill true true = Length
+causeOfFill true false = Accepted
 
 -- 02, E3: a string: 6, 8, 9
 abbrev pub causeOfString : (ok long short : Bool) → Refusal
@@ -46,6 +45,12 @@ causeOfString false long short = Unsound
 causeOfString true true short = StringLength
 causeOfString true false true = StringRoom
 causeOfString true false false = Accepted
+
+-- 02, E10: "after 6, a byte for a full queue gives 12"
+abbrev pub causeOfQueuing : (ok full : Bool) → Refusal
+causeOfQueuing false full = Unsound
+causeOfQueuing true true = QueueFull
+causeOfQueuing true false = Accepted
 
 -- a call goes by whether it is accepted: it comes to something, or all is as it was
 abbrev pub Declined : Refusal → Type 0

@@ -1,10 +1,13 @@
-// The calling set: the rate, the AT processor and the session in one value. Every call takes the
-// set that the one before returned, answers always, and a call that is declined changes nothing.
+// The calling set: the rate, the AT processor, the session, and the sender with the bytes that wait
+// for it, in one value. Every call takes the set that the one before returned, answers always, and a
+// call that is declined changes nothing.
 use at::AtProcessor;
+use at::Control;
 use command::Line;
 use keys::Digits;
 use keys::Lit;
 use reply::Reply;
+use sender::Sending;
 use session::Session;
 use session::SessionState;
 ghost use mathlib.Core.Path.{_≡_};
@@ -16,7 +19,7 @@ ghost use Rattle.at.specs.At.{sent};
 ghost use Rattle.at.specs.Processor.{commandMode};
 ghost use Rattle.set.specs.Refusals.{refusalNumber, causeOfSound, accepted};
 ghost use Rattle.set.specs.Sound.{sound};
-ghost use Rattle.set.specs.Set.{s12Of, freshSet, creationCause, made, typingCause, byteTyped, typed, outbox, lapsed, forced, fillCause, fill, buffer, rung};
+ghost use Rattle.set.specs.Set.{s12Of, freshSet, creationCause, made, typingCause, byteTyped, typed, outbox, sendingFor, lapsed, forced, isUpIn, raisedIf, fillCause, fill, buffer, queuingCause, byteQueued, rung};
 ghost use Rattle.set.specs.String.{setBy, sentBy, codesBy, atFront, stringCause, typedAll, outboxAll, codesAll};
 
 // The shortest outbox that a typed byte takes, and the longest buffer that a fill takes.
@@ -35,16 +38,17 @@ pub enum Refusal {
     Rate,
     Outbox,
     Length,
-    Connected,
     Unsound,
     StringLength,
     StringRoom,
+    QueueFull,
 }
 
 pub struct Set {
     pub rate: u32,
     pub processor: AtProcessor,
     pub session: Session,
+    pub sending: Sending,
 }
 
 pub struct Made {
@@ -98,13 +102,18 @@ pub struct Filled {
     pub key: Lit,
 }
 
+pub struct Queued {
+    pub set: Set,
+    pub refusal: Refusal,
+}
+
 pub struct Rung {
     pub refusal: Refusal,
     pub ring: u8,
 }
 
 impl Refusal {
-    // 01's number. 4, which a full line had, is given no more.
+    // 01's number. 4, which a full line had, and 5, which a fill in Connected had, are given no more.
     pub fn number(self) -> u8
         ensures { λ r. ⌜ r ≡ refusalNumber self ⌝ }
     {
@@ -113,10 +122,10 @@ impl Refusal {
             Refusal::Rate => 1,
             Refusal::Outbox => 2,
             Refusal::Length => 3,
-            Refusal::Connected => 5,
             Refusal::Unsound => 6,
             Refusal::StringLength => 8,
             Refusal::StringRoom => 9,
+            Refusal::QueueFull => 12,
         }
     }
 
@@ -132,11 +141,42 @@ fn fresh(rate: u32) -> Set
 {
     let processor = AtProcessor::new();
     let session = Session::new();
+    let sending = Sending::new(rate);
     Set {
         rate,
         processor,
         session,
+        sending,
     }
+}
+
+// Dial, answer and hang-up empty the queue.
+fn sending_for(control: Control, sending: Sending) -> Sending
+    ensures { λ r. ⌜ r ≡ sendingFor control sending ⌝ }
+{
+    match control {
+        Control::Nothing => sending,
+        Control::Dial => sending.emptied(),
+        Control::Answer => sending.emptied(),
+        Control::Hangup => sending.emptied(),
+    }
+}
+
+// State 3 is the line up.
+fn is_up(state: SessionState) -> bool
+    ensures { λ r. ⌜ r ≡ isUpIn state ⌝ }
+{
+    state.number() == 3
+}
+
+// The sender is fresh at the moment the line goes up.
+fn raised_if(up: bool, sending: Sending, rate: u32) -> Sending
+    ensures { λ r. ⌜ r ≡ raisedIf up sending rate ⌝ }
+{
+    if up {
+        return sending.raised(rate);
+    }
+    sending
 }
 
 // Creation is declined outside the rate's limits.
@@ -173,12 +213,15 @@ impl Set {
         let keys = digits.keys;
         let len = digits.len;
         let stage = session.stage;
+        let sending = self.sending;
         if len > 76 {
             return false;
         }
         let from: usize = 0;
         soundness::sound_state(stage, &keys[from..len], self.rate)
-            & (processor.sound() & ((session.m <= MAX_SAMPLES) & (session.shown <= 9)))
+            & (processor.sound()
+                & ((session.m <= MAX_SAMPLES)
+                    & ((session.shown <= 9) & soundness::sending::sending_ok(sending, self.rate))))
     }
 
     // The cause of a call that is declined for an unsound set alone.
@@ -243,10 +286,13 @@ impl Set {
         let asked = fed.control;
         let line = fed.line;
         let moved = control::apply(asked, session, line, self.rate);
+        let waiting = self.sending;
+        let sending = sending_for(asked, waiting);
         ByteTyped {
             set: Set {
                 processor: next,
                 session: moved,
+                sending,
                 ..self
             },
             reply,
@@ -337,10 +383,13 @@ impl Set {
             let asked = o.control;
             let line = Line::new();
             let moved = control::apply(asked, session, line, self.rate);
+            let waiting = self.sending;
+            let sending = sending_for(asked, waiting);
             return Lapsed {
                 set: Set {
                     processor: next,
                     session: moved,
+                    sending,
                     ..self
                 },
                 refusal,
@@ -375,14 +424,9 @@ impl Set {
     fn fill_cause(self, b: usize) -> Refusal
         ensures { λ r. ⌜ r ≡ fillCause self b ⌝ }
     {
-        let session = self.session;
-        let state = session.state;
         if self.sound() {
             if b > MAX_FILL {
                 return Refusal::Length;
-            }
-            if state.number() == 3 {
-                return Refusal::Connected;
             }
             return Refusal::Accepted;
         }
@@ -395,14 +439,30 @@ impl Set {
         ensures { λ _. ⌜ now (out .exit) ≡ buffer self (now (out .entry)) ⌝ }
     {
         let session = self.session;
+        let sending = self.sending;
+        let state = session.state;
         let refusal = self.fill_cause(out.len());
         if refusal.accepted() {
+            if is_up(state) {
+                let played = sending.fill(out);
+                return Filled {
+                    set: Set {
+                        sending: played,
+                        ..self
+                    },
+                    refusal,
+                    key: Lit::None,
+                };
+            }
             let filled = session.process_out(self.rate, out);
             let next = filled.session;
             let key = filled.key;
+            let shown = next.state;
+            let raised = raised_if(is_up(shown), sending, self.rate);
             return Filled {
                 set: Set {
                     session: next,
+                    sending: raised,
                     ..self
                 },
                 refusal,
@@ -414,6 +474,39 @@ impl Set {
             refusal,
             key: Lit::None,
         }
+    }
+
+    fn queuing_cause(self) -> Refusal
+        ensures { λ r. ⌜ r ≡ queuingCause self ⌝ }
+    {
+        let sending = self.sending;
+        let queue = sending.queue;
+        if self.sound() {
+            if queue.is_full() {
+                return Refusal::QueueFull;
+            }
+            return Refusal::Accepted;
+        }
+        Refusal::Unsound
+    }
+
+    // A byte for the sender, which begins its frame when the line is up and free for it.
+    pub fn queue_byte(self, byte: u8) -> Queued
+        ensures { λ r. ⌜ r ≡ byteQueued self byte ⌝ }
+    {
+        let sending = self.sending;
+        let refusal = self.queuing_cause();
+        if refusal.accepted() {
+            let longer = sending.queue_byte(byte);
+            return Queued {
+                set: Set {
+                    sending: longer,
+                    ..self
+                },
+                refusal,
+            };
+        }
+        Queued { set: self, refusal }
     }
 
     pub fn ring_number(self) -> Rung

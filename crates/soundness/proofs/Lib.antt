@@ -6,3 +6,5 @@ pub mod Modulators
 pub mod States
 pub mod First
 pub mod Next
+pub mod Senders
+pub mod Reading

@@ -15,6 +15,8 @@ ghost use Rattle.schedule.specs.Symbols.{inSymbol};
 ghost use Rattle.schedule.specs.Length.{diallingLength};
 ghost use Rattle.soundness.specs.Sound.{rateOk, digitsOk, ncoOk, modulatorOk, digitOk, ringOk, tonesOk, diallingOk, ringbackOk, bitsOk, cjOk, stateOk, soundState};
 
+pub mod sending;
+
 const MAX_DIGITS: usize = 76;
 
 // Rate in limits.

@@ -12,7 +12,7 @@ use Rattle.stage.proofs.StageState as state
 use Rattle.set.specs.Refusals.{accepted}
 use Rattle.set.specs.Set.{fill}
 use Rattle.accuracy.proofs.Overture.{InWord}
-use Rattle.accuracy.proofs.Fill.{fill-level}
+use Rattle.accuracy.proofs.Fill.{fill-level, up-level}
 use Rattle.accuracy.proofs.process_out.Statement.{statement}
 use Rattle.accuracy.proofs.process_out.Tie as tie
 
@@ -44,7 +44,17 @@ unfolding fill
 returns c =
     let (answer, left) = c .before .before .process-out .ensures in
     let start = c .before .before .before .before .before in
-    (answer, (left, λ dialling taken. rw left (fill-level (start .args .set) (now (start .args .out)) (held start) dialling (ap (λ f. accepted (f .refusal)) (sym answer) ∙ taken))))
+    let s = start .args .set in
+    let was = now (start .args .out) in (
+      answer,
+      (
+        left,
+        (
+          λ dialling taken. rw left (fill-level s was (ap (λ f. accepted (f .refusal)) (sym answer) ∙ taken) (held start) dialling),
+          λ up taken. rw left (up-level s was (ap (λ f. accepted (f .refusal)) (sym answer) ∙ taken) up),
+        ),
+      ),
+    )
 
 pub process-out-spec : {M : Type 1} → statement M
 process-out-spec = tie.close (tie.spec process-out-requires same-length returns)

@@ -3,7 +3,7 @@ use mathlib.Core.Path.{_≡_, sym}
 use lib.ListN.{length}
 use Rattle.cue.specs.Cue.{cueRefusalNumber, cueCause, cued}
 use Rattle.cue.proofs.Cueing.{in-limits, few-digits, accepted-cued, declined-cued, first-of-digit, first-of-digit-is}
-use borrow.Author.Needs.{needs}
+use borrow.Author.Needs.{needs, length-unmapped}
 use Rattle.cue.proofs.cue.Statement.{statement}
 use Rattle.cue.proofs.cue.Tie as tie
 
@@ -29,7 +29,9 @@ returns c =
     let a = c .before .before .before .before .before .args in
     let cause = c .before .before .before .before .cue-cause .ensures in
     let zero : cueRefusalNumber (cueCause (a .set) (a .position)) ≡ 0 = rw (← cause, ← c .before .before .before .number .ensures) (c .before .before .if1 .taken) in
-    let keys : length (a .set .session .digits .keys) ≡ 76 = search needs in (
+    -- what owning the set tells of its session, and that of the digits: they have 76 places
+    let digits = c .before .before .before .before .before .good .0 .1 .1 .1 .1 .0 .1 .1 .1 .0 in
+    let keys : length (a .set .session .digits .keys) ≡ 76 = length-unmapped _ (a .set .session .digits .keys) 76 (digits .1 .1 .0 .1 .0 .1) in (
       rw (cause, c .before .cue-sample .ensures, c .cue-key .ensures, accepted-cued _ _ _ zero, first-of-digit-is (a .set) (a .position) zero keys),
       λ _. rw (c .before .cue-sample .ensures) (first-of-digit (a .set) (a .position) zero keys),
     )

@@ -23,12 +23,12 @@ keep-requires c κs = search needs
 
 returns : tie.Need-returns
 returns c =
-    let s = c .before .before .before .before .before .before .before .before .before .before .before .before .before .load .ensures .0 in
-    let a = c .before .before .before .before .before .before .before .before .before .before .before .before .advance-time .ensures in
+    let s = c .before .before .before .before .before .before .before .before .before .before .before .before .before .before .load .ensures .0 in
+    let a = c .before .before .before .before .before .before .before .before .before .before .before .before .before .advance-time .ensures in
     record {
-      refusal = rw (c .before .before .before .before .before .before .before .before .before .before .number .ensures, a, s);
+      refusal = rw (c .before .before .before .before .before .before .before .before .before .before .before .number .ensures, a, s);
       memory = rw (← s, ← a) (c .keep .ensures);
-      codes = rw (c .before .before .before .before .before .before .before .before .second .ensures, c .before .before .before .before .before .before .before .before .before .first .ensures, a, s);
+      codes = rw (c .before .before .before .before .before .before .before .before .before .second .ensures, c .before .before .before .before .before .before .before .before .before .before .first .ensures, a, s);
     }
 
 pub gibbonplate-advance-time-in-spec : {M : Type 1} → statement M

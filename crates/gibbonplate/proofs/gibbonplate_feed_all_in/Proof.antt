@@ -23,11 +23,11 @@ same-length-2 c = search needs
 
 returns : tie.Need-returns
 returns c =
-    let s = c .before .before .before .before .before .before .before .before .before .before .before .before .before .before .before .before .load .ensures .0 in
-    let a = c .before .before .before .before .before .before .before .before .before .before .before .before .before .feed-all .ensures .0 in
-    let lent = c .before .before .before .before .before .before .before .before .before .before .before .before .before .feed-all .ensures .1 in
+    let s = c .before .before .before .before .before .before .before .before .before .before .before .before .before .before .before .before .before .load .ensures .0 in
+    let a = c .before .before .before .before .before .before .before .before .before .before .before .before .before .before .feed-all .ensures .0 in
+    let lent = c .before .before .before .before .before .before .before .before .before .before .before .before .before .before .feed-all .ensures .1 in
     record {
-      refusal = rw (c .before .before .before .before .before .before .before .number .ensures, a, s);
+      refusal = rw (c .before .before .before .before .before .before .before .before .number .ensures, a, s);
       memory = rw (← s, ← a) (c .keep .ensures);
       outbox = rw (← s) (lent .0);
       codes = rw (← s) (lent .1);

@@ -26,13 +26,13 @@ same-length c = search needs
 
 returns : tie.Need-returns
 returns c =
-    let s = c .before .before .before .before .before .before .before .before .before .before .before .before .before .before .before .before .load .ensures .0 in
-    let a = c .before .before .before .before .before .before .before .before .before .before .before .before .before .before .feed .ensures .0 in
+    let s = c .before .before .before .before .before .before .before .before .before .before .before .before .before .before .before .before .before .load .ensures .0 in
+    let a = c .before .before .before .before .before .before .before .before .before .before .before .before .before .before .before .feed .ensures .0 in
     record {
-      refusal = rw (c .before .before .before .before .before .before .before .before .before .before .number .ensures, a, s);
+      refusal = rw (c .before .before .before .before .before .before .before .before .before .before .before .number .ensures, a, s);
       memory = rw (← s, ← a) (c .keep .ensures);
-      outbox = rw (← s) (c .before .before .before .before .before .before .before .before .before .before .before .before .before .before .feed .ensures .1);
-      codes = rw (c .before .before .before .before .before .before .before .before .second .ensures, c .before .before .before .before .before .before .before .before .before .first .ensures, a, s);
+      outbox = rw (← s) (c .before .before .before .before .before .before .before .before .before .before .before .before .before .before .before .feed .ensures .1);
+      codes = rw (c .before .before .before .before .before .before .before .before .before .second .ensures, c .before .before .before .before .before .before .before .before .before .before .first .ensures, a, s);
       sent = rw (a, s);
     }
 

@@ -17,10 +17,10 @@ keep-requires c κs = search needs
 
 returns : tie.Need-returns
 returns c =
-    let s = c .before .before .before .before .before .before .before .before .before .before .load .ensures .0 in
-    let a = c .before .before .before .before .before .before .before .before .before .force-data-mode .ensures in
+    let s = c .before .before .before .before .before .before .before .before .before .before .before .load .ensures .0 in
+    let a = c .before .before .before .before .before .before .before .before .before .before .force-data-mode .ensures in
     record {
-      refusal = rw (c .before .before .before .before .before .before .before .number .ensures, a, s);
+      refusal = rw (c .before .before .before .before .before .before .before .before .number .ensures, a, s);
       memory = rw (← s, ← a) (c .keep .ensures);
     }
 

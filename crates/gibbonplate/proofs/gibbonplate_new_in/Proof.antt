@@ -14,7 +14,7 @@ number-requires c κs = search needs
 
 returns : tie.Need-returns
 returns c =
-    let a = c .before .before .before .before .before .before .before .before .before .new .ensures in
+    let a = c .before .before .before .before .before .before .before .before .before .before .new .ensures in
     record { refusal = rw (c .number .ensures, a); memory = rw (← a) (c .before .store .ensures .0) }
 
 pub gibbonplate-new-in-spec : {M : Type 1} → statement M

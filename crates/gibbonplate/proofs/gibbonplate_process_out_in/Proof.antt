@@ -23,13 +23,13 @@ same-length c = search needs
 
 returns : tie.Need-returns
 returns c =
-    let s = c .before .before .before .before .before .before .before .before .before .before .before .before .before .before .load .ensures .0 in
-    let a = c .before .before .before .before .before .before .before .before .before .before .before .before .process-out .ensures .0 in
+    let s = c .before .before .before .before .before .before .before .before .before .before .before .before .before .before .before .load .ensures .0 in
+    let a = c .before .before .before .before .before .before .before .before .before .before .before .before .before .process-out .ensures .0 in
     record {
-      refusal = rw (c .before .before .before .before .before .before .before .before .number .ensures, a, s);
+      refusal = rw (c .before .before .before .before .before .before .before .before .before .number .ensures, a, s);
       memory = rw (← s, ← a) (c .keep .ensures);
-      samples = rw (← s) (c .before .before .before .before .before .before .before .before .before .before .before .before .process-out .ensures .1);
-      key = rw (c .before .before .before .before .before .before .before .key-numbers .ensures, a, s);
+      samples = rw (← s) (c .before .before .before .before .before .before .before .before .before .before .before .before .before .process-out .ensures .1);
+      key = rw (c .before .before .before .before .before .before .before .before .key-numbers .ensures, a, s);
     }
 
 pub gibbonplate-process-out-in-spec : {M : Type 1} → statement M

@@ -1,4 +1,4 @@
--- `fresh` meets its contract: a fresh processor and an idle session. Assumes nothing.
+-- `fresh` meets its contract: a fresh processor, an idle session and a fresh sender. Assumes nothing.
 use borrow.Author.Needs.{needs}
 use Rattle.set.proofs.fresh.Statement.{statement}
 use Rattle.set.proofs.fresh.Tie as tie
@@ -9,8 +9,12 @@ new-requires c κs = search needs
 new-requires-2 : tie.Need-new-requires-2
 new-requires-2 c κs = search needs
 
+new-requires-3 : tie.Need-new-requires-3
+new-requires-3 c κs = search needs
+
 returns : tie.Need-returns
-returns c = rw (c .new2 .ensures, c .before .new .ensures)
+returns c = rw (c .new3 .ensures, c .before .new2 .ensures, c .before .before .new .ensures)
 
 pub fresh-spec : {M : Type 1} → statement M
-fresh-spec = tie.close (tie.spec new-requires new-requires-2 returns)
+fresh-spec =
+    tie.close (tie.spec new-requires new-requires-2 new-requires-3 returns)

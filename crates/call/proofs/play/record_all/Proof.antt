@@ -7,10 +7,10 @@ use Rattle.call.proofs.play.record_all.Statement.{statement}
 use Rattle.call.proofs.play.record_all.Tie as tie
 
 abbrev Inv-loop : tie.InvT-loop
-Inv-loop file samples₀ bytes₀ r₀ fill₀ samples bytes r fill = (length samples ≡ length samples₀) × (length bytes ≡ length bytes₀)
+Inv-loop file message samples₀ bytes₀ r₀ fill₀ samples bytes r fill = (length samples ≡ length samples₀) × (length bytes ≡ length bytes₀)
 
 abbrev μ-loop : tie.MeasureT-loop
-μ-loop file samples₀ bytes₀ r₀ fill₀ samples bytes r fill = 4294967295 - fill
+μ-loop file message samples₀ bytes₀ r₀ fill₀ samples bytes r fill = 4294967295 - fill
 
 loop-holds : tie.Need-loop-holds Inv-loop μ-loop
 loop-holds c = search needs

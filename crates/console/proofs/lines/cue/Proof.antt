@@ -1,7 +1,7 @@
 -- `console::lines::cue` meets its contract: by whether the position is above 255. Assumes nothing.
 use borrow.Author.Needs.{needs}
 use borrow.Author.Tests.{le-leb, lt-leb}
-use Rattle.console.specs.Lines.{cueCall, cueIf}
+use Rattle.console.specs.Lines.{callIf, cueCall}
 use Rattle.console.proofs.lines.cue.Statement.{statement}
 use Rattle.console.proofs.lines.cue.Tie as tie
 
@@ -9,11 +9,11 @@ cast-t3 : tie.Need-cast-t3
 cast-t3 c = search needs
 
 returns : tie.Need-returns
-unfolding cueCall cueIf
+unfolding callIf cueCall
 returns c = rw (le-leb _ _ (c .if1 .taken))
 
 returns-2 : tie.Need-returns-2
-unfolding cueCall cueIf
+unfolding callIf cueCall
 returns-2 c = rw (lt-leb _ _ (c .if1 .left))
 
 pub cue-spec : {M : Type 1} → statement M

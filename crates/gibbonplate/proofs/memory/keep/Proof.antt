@@ -11,7 +11,7 @@ store-requires c κs = search needs
 returns : tie.Need-returns
 unfolding kept
 returns c =
-    rw (c .before .before .before .before .before .before .before .if1 .taken) (c .store .ensures .0)
+    rw (c .before .before .before .before .before .before .before .before .if1 .taken) (c .store .ensures .0)
 
 returns-2 : tie.Need-returns-2
 unfolding kept

@@ -19,21 +19,31 @@ element-copy-out-state-at c = search needs
 state-at-requires : tie.Need-state-at-requires
 state-at-requires c κs = search needs
 
-element-copy-out-t17 : tie.Need-element-copy-out-t17
-element-copy-out-t17 c = search needs
+sending-in-requires : tie.Need-sending-in-requires
+sending-in-requires c κs = search needs
 
-element-copy-out-t20 : tie.Need-element-copy-out-t20
-element-copy-out-t20 c = search needs
+element-copy-out-t19 : tie.Need-element-copy-out-t19
+element-copy-out-t19 c = search needs
 
-element-copy-out-t25 : tie.Need-element-copy-out-t25
-element-copy-out-t25 c = search needs
+element-copy-out-t22 : tie.Need-element-copy-out-t22
+element-copy-out-t22 c = search needs
 
-element-copy-out-t14 : tie.Need-element-copy-out-t14
-element-copy-out-t14 c = search needs
+element-copy-out-t27 : tie.Need-element-copy-out-t27
+element-copy-out-t27 c = search needs
+
+element-copy-out-t16 : tie.Need-element-copy-out-t16
+element-copy-out-t16 c = search needs
 
 returns : tie.Need-returns
 unfolding setIn
-returns c = rw (c .before .before .before .before .before .state-at .ensures, c .before .before .before .before .before .before .before .staged .ensures, c .before .before .before .before .before .before .before .before .plain-in .ensures, c .before .before .before .before .before .before .before .before .before .processor-in .ensures)
+returns c =
+    rw (
+      c .before .before .before .before .before .sending-in .ensures,
+      c .before .before .before .before .before .before .state-at .ensures,
+      c .before .before .before .before .before .before .before .before .staged .ensures,
+      c .before .before .before .before .before .before .before .before .before .plain-in .ensures,
+      c .before .before .before .before .before .before .before .before .before .before .processor-in .ensures,
+    )
 
 pub set-in-spec : {M : Type 1} → statement M
 set-in-spec =
@@ -44,8 +54,9 @@ set-in-spec =
     staged-requires
     element-copy-out-state-at
     state-at-requires
-    element-copy-out-t17
-    element-copy-out-t20
-    element-copy-out-t25
-    element-copy-out-t14
+    sending-in-requires
+    element-copy-out-t19
+    element-copy-out-t22
+    element-copy-out-t27
+    element-copy-out-t16
     returns)

@@ -23,17 +23,21 @@ flag-requires-3 c κs = search needs
 flag-requires-4 : tie.Need-flag-requires-4
 flag-requires-4 c κs = search needs
 
+flag-requires-5 : tie.Need-flag-requires-5
+flag-requires-5 c κs = search needs
+
 returns : tie.Need-returns
 unfolding stored
 returns c =
-    let p = c .before .before .before .before .before .before .before .before .before .plain .ensures in
+    let p = c .before .before .before .before .before .before .before .before .before .before .plain .ensures in
     laid _ _ _ p
     (rw (
-      c .before .flag4 .ensures,
-      c .before .before .flag3 .ensures,
-      c .before .before .before .number .ensures,
-      c .before .before .before .before .flag2 .ensures,
-      c .before .before .before .before .before .flag .ensures,
+      c .before .flag5 .ensures,
+      c .before .before .flag4 .ensures,
+      c .before .before .before .flag3 .ensures,
+      c .before .before .before .before .number .ensures,
+      c .before .before .before .before .before .flag2 .ensures,
+      c .before .before .before .before .before .before .flag .ensures,
       p .0,
     ))
 
@@ -47,4 +51,5 @@ store-spec =
     number-requires
     flag-requires-3
     flag-requires-4
+    flag-requires-5
     returns)

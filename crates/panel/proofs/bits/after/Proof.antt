@@ -81,6 +81,12 @@ enum-told-11 c = search needs
 still-requires-11 : tie.Need-still-requires-11
 still-requires-11 c κs = search needs
 
+enum-told-12 : tie.Need-enum-told-12
+enum-told-12 c = search needs
+
+still-requires-12 : tie.Need-still-requires-12
+still-requires-12 c κs = search needs
+
 same-length : tie.Need-same-length
 same-length c = search needs
 
@@ -120,6 +126,9 @@ returns-11 c = rw (c .before .enum-told10 .given .1) (c .still10 .ensures)
 returns-12 : tie.Need-returns-12
 returns-12 c = rw (c .before .enum-told11 .given .1) (c .still11 .ensures)
 
+returns-13 : tie.Need-returns-13
+returns-13 c = rw (c .before .enum-told12 .given .1) (c .still12 .ensures)
+
 pub after-spec : {M : Type 1} → statement M
 after-spec =
     tie.close
@@ -149,6 +158,8 @@ after-spec =
     still-requires-10
     enum-told-11
     still-requires-11
+    enum-told-12
+    still-requires-12
     same-length
     returns
     returns-2
@@ -161,4 +172,5 @@ after-spec =
     returns-9
     returns-10
     returns-11
-    returns-12)
+    returns-12
+    returns-13)

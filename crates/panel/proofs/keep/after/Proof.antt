@@ -42,6 +42,9 @@ enum-told-10 c = search needs
 enum-told-11 : tie.Need-enum-told-11
 enum-told-11 c = search needs
 
+enum-told-12 : tie.Need-enum-told-12
+enum-told-12 c = search needs
+
 same-length : tie.Need-same-length
 same-length c = search needs
 
@@ -81,6 +84,9 @@ returns-11 c = rw (c .enum-told10 .given .1)
 returns-12 : tie.Need-returns-12
 returns-12 c = rw (c .enum-told11 .given .1)
 
+returns-13 : tie.Need-returns-13
+returns-13 c = rw (c .enum-told12 .given .1)
+
 pub after-spec : {M : Type 1} → statement M
 after-spec =
     tie.close
@@ -98,6 +104,7 @@ after-spec =
     enum-told-9
     enum-told-10
     enum-told-11
+    enum-told-12
     same-length
     returns
     returns-2
@@ -110,4 +117,5 @@ after-spec =
     returns-9
     returns-10
     returns-11
-    returns-12)
+    returns-12
+    returns-13)

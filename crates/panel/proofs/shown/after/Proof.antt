@@ -69,6 +69,12 @@ enum-told-5 c = search needs
 lit-requires : tie.Need-lit-requires
 lit-requires c κs = search needs
 
+enum-known-call-7 : tie.Need-enum-known-call-7
+enum-known-call-7 c = search needs
+
+queued-requires : tie.Need-queued-requires
+queued-requires c κs = search needs
+
 enum-told-6 : tie.Need-enum-told-6
 enum-told-6 c = search needs
 
@@ -121,7 +127,10 @@ returns-11 : tie.Need-returns-11
 returns-11 c = rw (c .before .enum-told5 .given .1) (c .lit .ensures)
 
 returns-12 : tie.Need-returns-12
-returns-12 c = rw (c .before .enum-told6 .given .1) (c .nothing2 .ensures)
+returns-12 c = rw (c .before .before .call7 .given .1) (c .queued .ensures)
+
+returns-13 : tie.Need-returns-13
+returns-13 c = rw (c .before .enum-told6 .given .1) (c .nothing2 .ensures)
 
 pub after-spec : {M : Type 1} → statement M
 after-spec =
@@ -149,6 +158,8 @@ after-spec =
     framed-requires
     enum-told-5
     lit-requires
+    enum-known-call-7
+    queued-requires
     enum-told-6
     nothing-requires-2
     returns
@@ -166,4 +177,5 @@ after-spec =
     returns-9
     returns-10
     returns-11
-    returns-12)
+    returns-12
+    returns-13)

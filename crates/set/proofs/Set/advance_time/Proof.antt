@@ -23,13 +23,19 @@ new-requires c κs = search needs
 apply-requires : tie.Need-apply-requires
 apply-requires c κs = search needs
 
+sending-for-requires : tie.Need-sending-for-requires
+sending-for-requires c κs = search needs
+
 returns : tie.Need-returns
 unfolding lapsed lapseCause heard
 returns c =
-    let u = c .before .before .before .before .before .before .before .sound-cause .ensures in
-    let v = c .before .before .before .before .before .before .accepted .ensures in
-    let t = c .before .before .before .before .before .if1 .taken in
-    rw (← u, ← v, t, c .apply .ensures, c .before .new .ensures, c .before .before .before .advance-time .ensures, c .before .before .before .before .heard-in .ensures)
+    let a = c .before .before in
+    let n = a .before in
+    let o = n .before .before in
+    let h = o .before in
+    let t = h .before in
+    let v = t .before in
+    rw (← v .before .sound-cause .ensures, ← v .accepted .ensures, t .if1 .taken, c .sending-for .ensures, a .apply .ensures, n .new .ensures, o .advance-time .ensures, h .heard-in .ensures)
 
 returns-2 : tie.Need-returns-2
 unfolding lapsed lapseCause
@@ -37,4 +43,4 @@ returns-2 c = rw (← c .before .before .sound-cause .ensures, ← c .before .ac
 
 pub advance-time-spec : {M : Type 1} → statement M
 advance-time-spec =
-    tie.close (tie.spec sound-cause-requires accepted-requires heard-in-requires advance-time-requires new-requires apply-requires returns returns-2)
+    tie.close (tie.spec sound-cause-requires accepted-requires heard-in-requires advance-time-requires new-requires apply-requires sending-for-requires returns returns-2)

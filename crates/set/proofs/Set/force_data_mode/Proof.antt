@@ -15,7 +15,10 @@ force-data-mode-requires c κs = search needs
 
 returns : tie.Need-returns
 unfolding forced forcedCause
-returns c = rw (← c .before .before .before .before .sound-cause .ensures, ← c .before .before .before .accepted .ensures, c .before .before .if1 .taken, c .before .force-data-mode .ensures)
+returns c =
+    let f = c .before .before in
+    let v = f .before .before in
+    rw (← v .before .sound-cause .ensures, ← v .accepted .ensures, f .before .if1 .taken, f .force-data-mode .ensures)
 
 returns-2 : tie.Need-returns-2
 unfolding forced forcedCause

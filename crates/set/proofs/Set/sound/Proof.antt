@@ -21,7 +21,7 @@ part-sound-state-start c = search needs
 
 part-sound-state-end : tie.Need-part-sound-state-end
 part-sound-state-end c =
-    let h : length (c .before .before .before .before .before .before .args .self .session .digits .keys) ≡ 76 = search needs in
+    let h : length (c .before .before .before .before .before .before .before .args .self .session .digits .keys) ≡ 76 = search needs in
     omega (arith, c .before .if1 .left)
 
 sound-state-requires : tie.Need-sound-state-requires
@@ -30,9 +30,15 @@ sound-state-requires c κs = search needs
 sound-requires : tie.Need-sound-requires
 sound-requires c κs = search needs
 
+sending-ok-requires : tie.Need-sending-ok-requires
+sending-ok-requires c κs = search needs
+
 returns-2 : tie.Need-returns-2
 unfolding sound
-returns-2 c = rw (le-leb _ 76 (c .before .before .before .before .before .before .if1 .left), c .before .before .before .sound-state .ensures, c .before .before .sound .ensures, sub-zero)
+returns-2 c =
+    let p = c .before .before .before in
+    let q = p .before in
+    rw (le-leb _ 76 (q .before .before .before .if1 .left), q .sound-state .ensures, p .sound .ensures, c .sending-ok .ensures, sub-zero)
 
 pub sound-spec : {M : Type 1} → statement M
 sound-spec =
@@ -44,4 +50,5 @@ sound-spec =
     part-sound-state-end
     sound-state-requires
     sound-requires
+    sending-ok-requires
     returns-2)

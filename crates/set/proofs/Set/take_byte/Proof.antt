@@ -13,15 +13,19 @@ feed-requires c κs = search needs
 apply-requires : tie.Need-apply-requires
 apply-requires c κs = search needs
 
+sending-for-requires : tie.Need-sending-for-requires
+sending-for-requires c κs = search needs
+
 same-length : tie.Need-same-length
 same-length c = search needs
 
 returns : tie.Need-returns
 unfolding heard
 returns c =
-    let p = c .before .before .before .before .before .feed .ensures in
-    (rw (c .apply .ensures, p .0, c .before .before .before .before .before .before .before .heard-in .ensures), p .1)
+    let a = c .before .before in
+    let f = a .before .before .before .before .before in
+    (rw (c .sending-for .ensures, a .apply .ensures, f .feed .ensures .0, f .before .before .heard-in .ensures), f .feed .ensures .1)
 
 pub take-byte-spec : {M : Type 1} → statement M
 take-byte-spec =
-    tie.close (tie.spec heard-in-requires feed-requires apply-requires same-length returns)
+    tie.close (tie.spec heard-in-requires feed-requires apply-requires sending-for-requires same-length returns)
