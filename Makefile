@@ -32,7 +32,7 @@ oracle:
 
 # What `call` writes, held against the Rust and played to decoders of keys and of bits; and what the programs say where something fails.
 listen: rt
-	rt check call wall tap letters bill
+	rt check call wall tap letters bill serial
 	tests/call
 	tests/decode
 	tests/sender

@@ -223,7 +223,7 @@ pub fn call_of(extended: bool, line: &[u8]) -> Call
 }
 
 // The number with one digit more, or the largest of 64 bits.
-fn grown(number: u64, digit: u8) -> u64
+pub fn grown(number: u64, digit: u8) -> u64
     ensures { λ r. ⌜ r ≡ min (number * 10 + digit) largest ⌝ }
 {
     let d = digit as u64;
@@ -233,7 +233,7 @@ fn grown(number: u64, digit: u8) -> u64
     u64::MAX
 }
 
-fn overflows(number: u64, digit: u8) -> bool
+pub fn overflows(number: u64, digit: u8) -> bool
     ensures { λ r. ⌜ r ≡ ltb largest (number * 10 + digit) ⌝ }
 {
     if number <= (u64::MAX - digit as u64) / 10 {

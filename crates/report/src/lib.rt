@@ -44,14 +44,14 @@ fn compose(line: &mut [u8], report: Report) -> usize
     text::put_byte(line, k, b'\n')
 }
 
-fn put_number(out: &mut [u8], at: usize, number: u64) -> usize
+pub fn put_number(out: &mut [u8], at: usize, number: u64) -> usize
     ensures { λ r. ⌜ pageOf (now (out .exit)) r ≡ addOf (addOf (pageOf (now (out .entry)) at) (decimalOf number)) (ascii ",") ⌝ }
 {
     let k = text::put_decimal(out, at, number);
     text::put_byte(out, k, b',')
 }
 
-fn put_mode(out: &mut [u8], at: usize, in_command_mode: bool) -> usize
+pub fn put_mode(out: &mut [u8], at: usize, in_command_mode: bool) -> usize
     ensures { λ r. ⌜ pageOf (now (out .exit)) r ≡ addOf (addOf (pageOf (now (out .entry)) at) (modeText «in_command_mode»)) (ascii ",") ⌝ }
 {
     if in_command_mode {
