@@ -1,35 +1,74 @@
-// The program's arguments, and what it says where one is not accepted.
+// The programs' arguments, and what a program says where one is not accepted.
 use console::lines::Call;
 use libc::STDERR_FILENO;
 
-pub fn say(line: &[u8]) {
-    io::write_all(STDERR_FILENO, line);
+// A line of a program's, behind its name.
+pub fn say(program: &[u8], line: &[u8]) {
+    let mut whole = [0u8; 128];
+    let mut k = text::put(&mut whole, 0, program);
+    k = text::put(&mut whole, k, b": ");
+    k = text::put(&mut whole, k, line);
+    k = text::put_byte(&mut whole, k, b'\n');
+    if k <= whole.len() {
+        io::write_all(STDERR_FILENO, &whole[..k]);
+    }
+}
+
+pub fn long_digits(program: &[u8]) {
+    say(
+        program,
+        b"DIGITS has more than 76 bytes; it takes up to 76 of 0-9, A-D, a-d, * and #",
+    );
+}
+
+pub fn no_key(program: &[u8]) {
+    say(
+        program,
+        b"DIGITS has a byte that is no key; it takes up to 76 of 0-9, A-D, a-d, * and #",
+    );
+}
+
+pub fn no_rate(program: &[u8]) {
+    say(
+        program,
+        b"RATE is no whole number from 8000 to 192000, in decimal digits",
+    );
+}
+
+pub fn long_path(program: &[u8]) {
+    say(
+        program,
+        b"FILE is too long; it takes a path of up to 4095 bytes that can be written",
+    );
 }
 
 // Says that a path cannot be written, and the system's word for why.
-pub fn cannot_write(path: &[u8]) {
+pub fn cannot_write(program: &[u8], path: &[u8]) {
     fail_of(
-        b"call: FILE has to be a path that can be written, and ",
+        program,
+        b": FILE has to be a path that can be written, and ",
         path,
         b" is not",
     );
 }
 
-pub fn cannot_write_first(part: &[u8]) {
+pub fn cannot_write_first(program: &[u8], part: &[u8]) {
     fail_of(
-        b"call: FILE has to be a path that can be written, and ",
+        program,
+        b": FILE has to be a path that can be written, and ",
         part,
         b", which is written first, is not",
     );
 }
 
-pub fn cannot_remove(part: &[u8]) {
-    fail_of(b"call: ", part, b" is left behind");
+pub fn cannot_remove(program: &[u8], part: &[u8]) {
+    fail_of(program, b": ", part, b" is left behind");
 }
 
-fn fail_of(before: &[u8], path: &[u8], after: &[u8]) {
+fn fail_of(program: &[u8], before: &[u8], path: &[u8], after: &[u8]) {
     let mut line = [0u8; 16640];
-    let mut k = text::put(&mut line, 0, before);
+    let mut k = text::put(&mut line, 0, program);
+    k = text::put(&mut line, k, before);
     k = put_quoted(&mut line, k, path);
     k = text::put(&mut line, k, after);
     fail(&line, k);

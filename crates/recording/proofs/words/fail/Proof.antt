@@ -1,9 +1,9 @@
--- `call::words::fail` is safe: the part that it writes is as long as the place says. Assumes nothing.
+-- `recording::words::fail` is safe: the part that it writes is as long as the place says. Assumes nothing.
 use mathlib.Core.Path.{sym}
 use lib.Seq.{length-take-le}
 use borrow.Author.Needs.{needs}
-use Rattle.call.proofs.words.fail.Statement.{statement}
-use Rattle.call.proofs.words.fail.Tie as tie
+use Rattle.recording.proofs.words.fail.Statement.{statement}
+use Rattle.recording.proofs.words.fail.Tie as tie
 
 slice-aggregate-fail : tie.Need-slice-aggregate-fail
 slice-aggregate-fail c = sym (length-take-le _ _ (c .before .if1 .taken))

@@ -1,10 +1,10 @@
--- `call::words::put_quoted` is safe and ends: the measure is what is left of the path. Assumes nothing.
+-- `recording::words::put_quoted` is safe and ends: the measure is what is left of the path. Assumes nothing.
 use Prim.Native.Nat.{_≤_, _-_}
 use mathlib.Core.Path.{_≡_}
 use borrow.Author.Needs.{needs}
 use lib.ListN.{length}
-use Rattle.call.proofs.words.put_quoted.Statement.{statement}
-use Rattle.call.proofs.words.put_quoted.Tie as tie
+use Rattle.recording.proofs.words.put_quoted.Statement.{statement}
+use Rattle.recording.proofs.words.put_quoted.Tie as tie
 
 abbrev Inv-loop : tie.InvT-loop
 Inv-loop line₀ at path k₀ i₀ line k i = (i ≤ length path) × (length line ≡ length line₀)

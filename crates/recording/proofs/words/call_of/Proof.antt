@@ -1,9 +1,9 @@
--- `call::words::call_of` is safe: the part that it reads is as long as the place says. Assumes nothing.
+-- `recording::words::call_of` is safe: the part that it reads is as long as the place says. Assumes nothing.
 use mathlib.Core.Path.{sym}
 use lib.Seq.{length-take-le}
 use borrow.Author.Needs.{needs}
-use Rattle.call.proofs.words.call_of.Statement.{statement}
-use Rattle.call.proofs.words.call_of.Tie as tie
+use Rattle.recording.proofs.words.call_of.Statement.{statement}
+use Rattle.recording.proofs.words.call_of.Tie as tie
 
 slice-aggregate-call-of : tie.Need-slice-aggregate-call-of
 slice-aggregate-call-of c = sym (length-take-le _ _ (c .before .if1 .taken))
