@@ -30,14 +30,16 @@ test: rt
 oracle:
 	tests/oracle/build
 
-# What `call` writes, held against the Rust and played to decoders of keys and of bits; and what the programs say where something fails.
+# What `call` and `earpiece` write, held against the Rust or a second model and played to decoders of keys and of bits; and what the programs
+# say where something fails.
 listen: rt
-	rt check call wall tap letters bill serial
+	rt check call wall tap letters bill serial earpiece
 	tests/call
 	tests/decode
 	tests/sender
 	tests/failures
 	tests/letters
+	tests/earpiece --listen
 
 # The port against the Rust: ns a sample, and the samples' bits compared.
 bench: rt

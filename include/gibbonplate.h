@@ -12,8 +12,8 @@
  *     gibbonplate_advance_time(&set, ns, ...);   // time passes
  *     gibbonplate_process_out(&set, buffer, n, key);  // the card wants samples
  *
- * How long a call will be, stage by stage, is told before it is made, by the last three functions: they
- * take digits and a rate, and no set.
+ * How long a call will be, stage by stage, is told before it is made, and its keys, dial tone and ringback are
+ * given as 16-bit samples for an earpiece, by the last four functions: they take digits and a rate, and no set.
  *
  * Every call answers. A call that is declined answers one of the numbers of gibbonplate_refusal, and
  * leaves the set and every buffer as they were, creation apart. Memory that holds no set, or one that
@@ -296,6 +296,19 @@ uint32_t gibbonplate_stage_samples(const uint8_t *digits, size_t len, uint32_t r
  * The first sample of stage k is 1 and the samples of the stages before k; T + 1 would be Connected's.
  */
 uint32_t gibbonplate_total_samples(const uint8_t *digits, size_t len, uint32_t rate);
+
+/*
+ * For an earpiece: a call's samples as 16-bit whole numbers, from the one after the first `pass` on. Dial
+ * tone, the keys' tones and ringback sound, where a set's call has them, sample for sample; all other
+ * samples are 0, and so are those past T. Two tones are within -29,490 to 29,488 together. Calls may come
+ * in any order: nothing is kept between them, so that a buffer is asked for again, or another, at will, and
+ * passing over costs about a microsecond, however many are passed over. It may be called in an audio callback.
+ *
+ * Digits and rate are taken and declined as above: 1, then 10; then a buffer of more than 65,536 samples
+ * is declined with 3. Declined, the buffer is as it was. Null with length 0 is right for both.
+ */
+uint8_t gibbonplate_earpiece(const uint8_t *digits, size_t len, uint32_t rate, uint64_t pass,
+                             int16_t *out, size_t out_len);
 
 #ifdef __cplusplus
 }

@@ -9,31 +9,7 @@
  *
  * The digits lie against a page that may not be touched. Exits with 1 where something is not as it should be.
  */
-#define _DEFAULT_SOURCE
-#include "gibbonplate.h"
-#include <stdio.h>
-#include <stdlib.h>
-#include <string.h>
-#include <sys/mman.h>
-#include <unistd.h>
-
-#define CHECK(fact) ((fact) ? (void)0 : failed(#fact, __LINE__))
-
-static void failed(const char *fact, int line)
-{
-    fprintf(stderr, "tests/c/plan.c:%d: not so: %s\n", line, fact);
-    exit(1);
-}
-
-static uint64_t seed = 0x2545F4914F6CDD1D;
-
-static uint32_t below(uint32_t n)
-{
-    seed ^= seed << 13;
-    seed ^= seed >> 7;
-    seed ^= seed << 17;
-    return (uint32_t)((seed * 0x2545F4914F6CDD1D >> 33) % n);
-}
+#include "check.h"
 
 static const char KEYS[] = "0123456789ABCDabcd*#";
 

@@ -6,7 +6,8 @@ mod play;
 mod stages;
 mod table;
 mod talk;
-mod words;
+
+use recording::words;
 
 fn main() {
     let count = os::arg_count();
@@ -19,7 +20,8 @@ fn main() {
         return;
     }
     words::say(
-        b"call: it takes DIGITS RATE FILE or DIGITS RATE FILE TEXT, or nothing for 5551234 48000 call.wav\n",
+        b"call",
+        b"it takes DIGITS RATE FILE or DIGITS RATE FILE TEXT, or nothing for 5551234 48000 call.wav",
     );
 }
 
@@ -30,9 +32,7 @@ fn with_digits() {
         with_rate(&word[..count]);
         return;
     }
-    words::say(
-        b"call: DIGITS has more than 76 bytes; it takes up to 76 of 0-9, A-D, a-d, * and #\n",
-    );
+    words::long_digits(b"call");
 }
 
 fn with_rate(digits: &[u8]) {
@@ -42,12 +42,10 @@ fn with_rate(digits: &[u8]) {
             with_file(digits, rate);
             return;
         }
-        words::say(b"call: RATE is no whole number from 8000 to 192000, in decimal digits\n");
+        words::no_rate(b"call");
         return;
     }
-    words::say(
-        b"call: DIGITS has a byte that is no key; it takes up to 76 of 0-9, A-D, a-d, * and #\n",
-    );
+    words::no_key(b"call");
 }
 
 fn with_file(digits: &[u8], rate: u32) {
@@ -57,9 +55,7 @@ fn with_file(digits: &[u8], rate: u32) {
         with_text(digits, rate, &path[..count]);
         return;
     }
-    words::say(
-        b"call: FILE is too long; it takes a path of up to 4095 bytes that can be written\n",
-    );
+    words::long_path(b"call");
 }
 
 // A word that is missing is no text, as an empty one is.
@@ -67,7 +63,10 @@ fn with_text(digits: &[u8], rate: u32, path: &[u8]) {
     let mut message = io::buffer();
     let count = os::arg(4, &mut message);
     if os::errno() == libc::ENAMETOOLONG {
-        words::say(b"call: TEXT has more than 4096 bytes; it takes up to 4096\n");
+        words::say(
+            b"call",
+            b"TEXT has more than 4096 bytes; it takes up to 4096",
+        );
         return;
     }
     call(digits, rate, path, &message[..count]);

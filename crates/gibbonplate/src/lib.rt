@@ -12,6 +12,7 @@ ghost use Rattle.schedule.specs.Time.{minRate, maxRate};
 ghost use Rattle.schedule.specs.Length.{maxDigits};
 ghost use Rattle.passage.specs.Overture.{HasLength};
 ghost use Rattle.plan.specs.Plan.{planRefusalNumber, planCause, stageSamples, totalSamples, BoundsOf};
+ghost use Rattle.handset.specs.Call.{EarpieceIs};
 ghost use Rattle.reply.specs.Texts.{textOf};
 ghost use Rattle.at.specs.Processor.{commandMode};
 ghost use Rattle.session.specs.Session.{stateNumber};
@@ -472,4 +473,12 @@ pub extern "C" fn gibbonplate_total_samples(digits: &[u8], rate: u32) -> u32
     ensures { λ T. ⌜ (minRate ≤ rate → rate ≤ maxRate → length (now (digits .entry)) ≤ maxDigits → BoundsOf rate (length (digitsOf (now (digits .entry)))) T) ⌝ }
 {
     plan::total_samples(digits, rate)
+}
+
+// The samples of a call that follow those passed over, in 16-bit whole numbers. It needs no set either.
+#[no_mangle]
+pub extern "C" fn gibbonplate_earpiece(digits: &[u8], rate: u32, pass: u64, out: &mut [i16]) -> u8
+    ensures { λ n. ⌜ EarpieceIs (now (digits .entry)) rate pass (now (out .entry)) (now (out .exit)) n ⌝ }
+{
+    handset::earpiece(digits, rate, pass, out)
 }

@@ -22,7 +22,7 @@ use Rattle.schedule.proofs.Digits.{digit-late, in-tone}
 use Rattle.schedule.proofs.Lengths.{digitAfter, dialling-ends, dialling-near, dialling-range}
 
 -- ---- on the edge
-edge-time : (r n p : ℕ) → 8000 ≤ r → r ≤ 192000 → n ≤ 2 ^ 32 → p ≤ 75 → p * r ≡ 5 * n → timeAt r n ≡ timeAt 5 p
+pub edge-time : (r n p : ℕ) → 8000 ≤ r → r ≤ 192000 → n ≤ 2 ^ 32 → p ≤ 76 → p * r ≡ 5 * n → timeAt r n ≡ timeAt 5 p
 edge-time r n p lo hi N P e =
     div-by binary64 (ofNat n) (ofNat r) n r 1 (pow-pos 0) pos (nat-value n (le-trans N (lit≤ tt))) (rate-value r hi)
     ∙ round-same binary64 false n r p 5 pos (lit< tt) (mul-comm n 5 ∙ sym e)
@@ -35,11 +35,11 @@ edge-time r n p lo hi N P e =
 abbrev sounds : ℕ → Bool
 sounds p = not (leb p (digitAt (timeAt 5 p))) || inTone (timeAt 5 p)
 
-abbrev allBelow : ℕ → (ℕ → Bool) → Bool
+abbrev pub allBelow : ℕ → (ℕ → Bool) → Bool
 allBelow zero f = true
 allBelow (suc n) f = f n && allBelow n f
 
-below : (n : ℕ) (f : ℕ → Bool) → allBelow n f ≡ true → (k : ℕ) → k < n → f k ≡ true
+pub below : (n : ℕ) (f : ℕ → Bool) → allBelow n f ≡ true → (k : ℕ) → k < n → f k ≡ true
 below zero f e k h = absurd (omega arith)
 below (suc n) f e k h =
     let (last, rest) = and-eq-true-iff (f n) (allBelow n f) .0 e in
@@ -73,10 +73,10 @@ module _ (r : ℕ) (lo : 8000 ≤ r) (hi : r ≤ 192000) (p : ℕ) (some : 0 < p
       not-next g = apart n (p * r) near (le-trans (le-of-eq (omega arith)) (digit-late r lo hi n (dialling-range r lo hi p (le-trans P (lit≤ tt)) .0) short (suc p) g))
 
   on-edge : p * r ≡ 5 * n → inTone (timeAt r n) ≡ true
-  on-edge e = rw (edge-time r n p lo hi short P e) (go (leb p (digitAt (timeAt 5 p))) (inTone (timeAt 5 p)) (below 76 sounds edges p (lt-of-le-of-lt P (lit< tt))) told)
+  on-edge e = rw (edge-time r n p lo hi short (le-trans P (lit≤ tt)) e) (go (leb p (digitAt (timeAt 5 p))) (inTone (timeAt 5 p)) (below 76 sounds edges p (lt-of-le-of-lt P (lit< tt))) told)
     where
       told : leb p (digitAt (timeAt 5 p)) ≡ true
-      told = rw (← edge-time r n p lo hi short P e) (le-leb p (digitAfter r n) reached)
+      told = rw (← edge-time r n p lo hi short (le-trans P (lit≤ tt)) e) (le-leb p (digitAfter r n) reached)
 
       go : (a b : Bool) → not a || b ≡ true → a ≡ true → b ≡ true
       go true b h k = h

@@ -1,0 +1,14 @@
+pub mod Fits
+pub mod Bound
+pub mod Factorial
+pub mod PiBound
+pub mod Entries
+pub mod Gain
+pub mod Heard
+pub mod Digits
+pub mod Stages
+pub mod Lifted
+pub mod Places
+pub mod Joined
+pub mod Declining
+pub mod Float
