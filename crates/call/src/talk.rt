@@ -1,21 +1,27 @@
-// What a call sends once its line is up: the bytes of a text, queued as places get free.
+// What a call sends once its line is up: a fifth of a second of mark, on which a decoder settles, and
+// then the bytes of a text, queued as places get free.
 use crate::play;
 use set::Set;
 
-// A set, and how many bytes of the text were queued in it.
+// A set, how many bytes of the text were queued in it, and how many samples of mark are to come first.
 pub struct Talk {
     pub set: Set,
     pub queued: usize,
+    pub mark: u32,
 }
 
 pub fn silent(set: Set) -> Talk {
-    Talk { set, queued: 0 }
+    Talk {
+        set,
+        queued: 0,
+        mark: set.rate() / 5,
+    }
 }
 
-// Queues what there is room for, once the line is up.
+// Queues what there is room for, once the line is up and mark was heard.
 pub fn queue(talk: Talk, message: &[u8]) -> Talk {
     let set = talk.set;
-    if play::is_dialling(set) {
+    if talk.mark > 0 {
         return talk;
     }
     queue_from(set, message, talk.queued)
@@ -28,7 +34,21 @@ fn queue_from(set: Set, message: &[u8], from: usize) -> Talk {
         s = queue_byte(s, message[i]);
         i += 1;
     }
-    Talk { set: s, queued: i }
+    Talk {
+        set: s,
+        queued: i,
+        mark: 0,
+    }
+}
+
+// The samples of mark that are to come after a fill of n: what the overture fills is none.
+fn mark_left(talk: Talk, n: usize) -> u32 {
+    let set = talk.set;
+    if play::is_dialling(set) {
+        return talk.mark;
+    }
+    let heard = play::at_most(n, talk.mark);
+    talk.mark - heard
 }
 
 fn has_room(set: Set) -> bool {
@@ -71,11 +91,13 @@ fn fill_next(talk: Talk, message: &[u8], n: usize, samples: &mut [f32]) -> Talk 
 pub fn fill(talk: Talk, message: &[u8], samples: &mut [f32]) -> Talk {
     let t = queue(talk, message);
     let set = t.set;
+    let mark = mark_left(t, samples.len());
     let filled = set.process_out(samples);
     let next = filled.set;
     Talk {
         set: next,
         queued: t.queued,
+        mark,
     }
 }
 
