@@ -22,7 +22,7 @@ use Rattle.cue.specs.Cue.{cueRefusalNumber, cued}
 use Rattle.passage.specs.Overture.{HasLength}
 use Rattle.plan.specs.Plan.{planRefusalNumber, planCause, stageSamples, totalSamples}
 use Rattle.handset.specs.Sound.{samplesAfter}
-use Rattle.handset.specs.Call.{earpieceRefusal}
+use Rattle.handset.specs.Call.{earpieceRefusal, EarpieceIs}
 use Rattle.gibbonplate.specs.Memory.{Memory, memory, stored, loaded, kept}
 use Rattle.gibbonplate.specs.Calls.{keyNumbers}
 use Rattle.gibbonplate.proofs.gibbonplate_new_in.Reads as new-in
@@ -152,8 +152,11 @@ module _ (κs : Lfts 1) (digits : RefT (List ℕ)) (rate : ℕ) where
 -- ---- 02, E14
 module _ (κs : Lfts 2) (digits : RefT (List ℕ)) (rate pass : ℕ) (out : RefT (List ℤ)) (left : List ℤ) (number : ℕ)
     (d : earpiece.Learnt κs (digits, (rate, (pass, (out, tt)))) number (digits, (rate, (pass, (at-last out left, tt))))) where
+  earpiece-is : EarpieceIs (now digits) rate pass (now out) left number
+  earpiece-is = d
+
   pub earpiece-declines : number ≡ earpieceRefusal (length (now digits)) rate (length (now out))
-  earpiece-declines = d .refusal
+  earpiece-declines = earpiece-is .refusal
 
   pub earpiece-writes : left ≡ cond (eqb number 0) (samplesAfter (digitsOf (now digits)) rate pass (length (now out))) (now out)
-  earpiece-writes = d .buffer
+  earpiece-writes = earpiece-is .buffer
