@@ -1,12 +1,14 @@
 -- What the exported functions promise, read off their contracts at its full strength, so that one that says less is refused here: of the set's calls
--- each number, memory and buffer; of 02, E4 the refusal, the counts and T. Assumes nothing.
+-- each number, memory and buffer; of 02, E4 the refusal, the counts and T; of E14 the refusal and the buffer. Assumes nothing.
 use Prim.Native.Nat.{ℕ, _+_, _*_, _≤_}
 use mathlib.Core.Path.{_≡_}
-use mathlib.Core.Bool.{Bool}
+use mathlib.Core.Bool.{Bool, cond}
 use mathlib.Core.List.{List, [], _∷_}
 use contract.Lifetimes.{Lfts}
 use denote.Ref.{RefT, now, at-last}
+use lib.Dec.{eqb}
 use lib.Ieee.{Float}
+use lib.IntN.{ℤ}
 use lib.ListN.{length}
 use Rattle.ascii.specs.Front.{put, putLength}
 use Rattle.keys.specs.Keys.{digitsOf}
@@ -19,6 +21,8 @@ use Rattle.set.specs.String.{typedAll, outboxAll, codesAll}
 use Rattle.cue.specs.Cue.{cueRefusalNumber, cued}
 use Rattle.passage.specs.Overture.{HasLength}
 use Rattle.plan.specs.Plan.{planRefusalNumber, planCause, stageSamples, totalSamples}
+use Rattle.handset.specs.Sound.{samplesAfter}
+use Rattle.handset.specs.Call.{earpieceRefusal, EarpieceIs}
 use Rattle.gibbonplate.specs.Memory.{Memory, memory, stored, loaded, kept}
 use Rattle.gibbonplate.specs.Calls.{keyNumbers}
 use Rattle.gibbonplate.proofs.gibbonplate_new_in.Reads as new-in
@@ -35,6 +39,7 @@ use Rattle.gibbonplate.proofs.gibbonplate_write_reply.Reads as write-re
 use Rattle.gibbonplate.proofs.gibbonplate_plan_refusal.Reads as plan-refusal
 use Rattle.gibbonplate.proofs.gibbonplate_stage_samples.Reads as stage-samples
 use Rattle.gibbonplate.proofs.gibbonplate_total_samples.Reads as total-samples
+use Rattle.gibbonplate.proofs.gibbonplate_earpiece.Reads as earpiece
 
 -- ---- the set's calls: memory before and after, and what else is lent
 module _ (longs counts : RefT (List ℕ)) (reals : RefT (List Float)) (marks line keys queue : RefT (List ℕ)) where
@@ -143,3 +148,15 @@ module _ (κs : Lfts 1) (digits : RefT (List ℕ)) (rate : ℕ) where
 
       pub most : 120 * T ≤ 1175 * rate + 24 * length (digitsOf (now digits)) * rate + 720
       most = d .1 .1 slow fast few .most
+
+-- ---- 02, E14
+module _ (κs : Lfts 2) (digits : RefT (List ℕ)) (rate pass : ℕ) (out : RefT (List ℤ)) (left : List ℤ) (number : ℕ)
+    (d : earpiece.Learnt κs (digits, (rate, (pass, (out, tt)))) number (digits, (rate, (pass, (at-last out left, tt))))) where
+  earpiece-is : EarpieceIs (now digits) rate pass (now out) left number
+  earpiece-is = d
+
+  pub earpiece-declines : number ≡ earpieceRefusal (length (now digits)) rate (length (now out))
+  earpiece-declines = earpiece-is .refusal
+
+  pub earpiece-writes : left ≡ cond (eqb number 0) (samplesAfter (digitsOf (now digits)) rate pass (length (now out))) (now out)
+  earpiece-writes = earpiece-is .buffer

@@ -30,7 +30,7 @@ long : length wave ≡ 1024
 unfolding wave
 long = refl
 
-right : (k : ℕ) → k < 1024 → IsSine k (getD wave k (pos 0))
+pub right : (k : ℕ) → k < 1024 → IsSine k (getD wave k (pos 0))
 right k h = enough k (getD wave k (pos 0)) h (subst (λ (m : ℕ). T (fits m (getD wave k (pos 0)))) (zero-add k) (from fits wave 0 passed k (subst (λ (n : ℕ). k < n) (sym long) h)))
 
 -- so is the one that a phase picks

@@ -1,69 +1,45 @@
--- Stage, tone and gap are the float overture's: by the cases of its state, whose sample is gated by the very test that says what sounds; and of the
--- digits, which are all keys, each in tone has its key. Assumes nothing.
-use mathlib.Core.Path.{_≡_, refl, sym, ap, _∙_}
-use mathlib.Core.Bool.{Bool, true, false, not, _&&_, and-eq-true-iff}
-use mathlib.Core.List.{List, [], _∷_}
-use Prim.Native.Nat.{ℕ, zero, suc, _≤_, _<_}
-use native.Mathlib.Nat.{le-trans, not-suc-le-zero, le-of-suc-le-suc}
+-- Stage, tone and gap are the float overture's: by the cases of its state, whose sample is gated by the very test that says what sounds. Assumes nothing.
+use mathlib.Core.Path.{_≡_, refl, sym, ap, subst, _∙_}
+use mathlib.Core.Bool.{Bool, true, false, not, _&&_}
+use mathlib.Core.List.{List, _∷_}
+use Prim.Native.Nat.{ℕ, zero, suc, _≤_}
+use native.Mathlib.Nat.{le-trans}
 use native.Mathlib.Omega.{arith}
 use lib.Dec.{leb}
 use lib.IntN.{ℤ, pos}
-use lib.ListN.{length, getD, replicate, List·getD-eq-default}
-use borrow.Author.Tests.{leb-true, leb-false}
+use lib.ListN.{length, replicate}
 use Rattle.nco.specs.declared.Nco.{Nco}
-use Rattle.keys.specs.Keys.{isKey, tonesAt, tonesOf, allKeys, keyRow, keyColumn}
+use Rattle.keys.specs.Keys.{allKeys}
 use Rattle.schedule.specs.Time.{timeAt, saturatingInc}
 use Rattle.schedule.specs.Length.{total}
 use Rattle.schedule.specs.Ringback.{ringTime, ringTone}
 use Rattle.tones.specs.declared.Dial.{Dial}
 use Rattle.tones.specs.Mixed.{gatedOf}
-use Rattle.tones.specs.Dial.{tonesFor, digitTones, dialledKey, dialledBy, dialStepOf}
+use Rattle.tones.specs.Dial.{dialledBy, dialStepOf}
 use Rattle.stage.specs.declared.Stage.the-variants as stage
 use Rattle.stage.specs.declared.StageState.{StageState}
 use Rattle.stage.specs.declared.StageState.the-variants.{OffHook, DialTone, Dialling, Ringback, Ci, Ansam, CmJm, Cj, Training, Connected}
 use Rattle.stage.specs.Stage.{stageNumber, stageOf}
 use Rattle.stage.specs.Next.{dialToneOf, diallingOf, ringbackOf, generateOf, sampleNext}
+use Rattle.overture.specs.Iteration.{fresh}
+use Rattle.overture.proofs.Iteration.{after-suc}
 use Rattle.passage.specs.Lengths.{samplesBefore}
 use Rattle.handset.specs.declared.Sound.the-variants.{Silent}
-use Rattle.handset.specs.Sound.{keySound, ringSound, soundOf, stateAfter}
+use Rattle.handset.specs.Sound.{soundOf, stateAfter}
 use Rattle.handset.specs.Runs.{heardFrom}
-use Rattle.handset.specs.Float.{isSounding, FloatEdges}
+use Rattle.handset.specs.Float.{isSounding, Holds, SameSteps, FloatEdges}
 use Rattle.handset.proofs.Stages.{silent-stage, late-stage}
 use Rattle.handset.proofs.Heard.{silence}
 use Rattle.handset.proofs.Joined.{silence-after}
-
--- ---- a digit's key
-key-at : (digits : List ℕ) → allKeys digits ≡ true → (i : ℕ) → i < length digits → isKey (getD digits i 0) ≡ true
-unfolding allKeys
-key-at [] e i h = absurd (not-suc-le-zero h)
-key-at (b ∷ bs) e zero h = and-eq-true-iff (isKey b) (allKeys bs) .0 e .0
-key-at (b ∷ bs) e (suc i) h = key-at bs (and-eq-true-iff (isKey b) (allKeys bs) .0 e .1) i (le-of-suc-le-suc h)
-
-by-key : (t : Bool) (row column : ℕ) → isSounding (keySound (tonesFor (tonesAt t row column) .key)) ≡ t
-by-key true row column = refl
-by-key false row column = refl
-
-in-tone : (digits : List ℕ) (i : ℕ) → isSounding (keySound (dialledKey digits i true)) ≡ isKey (getD digits i 0)
-unfolding dialledKey digitTones tonesOf
-in-tone digits i = by-key (isKey (getD digits i 0)) (keyRow (getD digits i 0)) (keyColumn (getD digits i 0))
-
-no-digit : (digits : List ℕ) (i : ℕ) → length digits ≤ i → isKey (getD digits i 0) ≡ false
-unfolding isKey
-no-digit digits i h = ap isKey (List·getD-eq-default digits 0 h)
-
-in-gap : (digits : List ℕ) (i : ℕ) → isSounding (keySound (dialledKey digits i false)) ≡ false
-unfolding dialledKey
-in-gap digits i = refl
+use Rattle.handset.proofs.Gate.{ring-gate, dial-sounds}
+use Rattle.handset.proofs.Oscillators.{Stepped, stepped}
 
 -- ---- a state
 record Gated (s : StageState) (digits : List ℕ) (r : ℕ) : Type 0 where
   a : Nco
   b : Nco
+  held : Holds s a b
   sample : sampleNext s digits r ≡ gatedOf (isSounding (soundOf s digits r)) a b .sample
-
-ring-gate : (on : Bool) → isSounding (ringSound on) ≡ on
-ring-gate true = refl
-ring-gate false = refl
 
 -- no digit at the position gives 0.0, and so does a gap
 dial-sample : (c : Bool) (dial : Dial) (n : ℕ) (digits : List ℕ) (r : ℕ) → dialledBy c dial n digits r .sample ≡ gatedOf (not c && dial .tone) (dial .a) (dial .b) .sample
@@ -71,20 +47,12 @@ unfolding gatedOf
 dial-sample true dial n digits r = refl
 dial-sample false dial n digits r = refl
 
-dial-sounds : (digits : List ℕ) → allKeys digits ≡ true → (i : ℕ) (on : Bool) → isSounding (keySound (dialledKey digits i on)) ≡ not (leb (length digits) i) && on
-dial-sounds digits keys i on = go on (leb (length digits) i) refl
-  where
-    go : (on c : Bool) → leb (length digits) i ≡ c → isSounding (keySound (dialledKey digits i on)) ≡ not c && on
-    go true true e = in-tone digits i ∙ no-digit digits i (leb-true (length digits) i e)
-    go true false e = in-tone digits i ∙ key-at digits keys i (leb-false (length digits) i e)
-    go false true e = in-gap digits i
-    go false false e = in-gap digits i
-
 dial-gate : (digits : List ℕ) → allKeys digits ≡ true → (r i : ℕ) (on : Bool) (a b : Nco) (n : ℕ) → Gated (Dialling i on a b n) digits r
 unfolding sampleNext generateOf diallingOf dialStepOf soundOf
 dial-gate digits keys r i on a b n = record {
   a = a;
   b = b;
+  held = (refl, refl);
   sample =
       dial-sample (leb (length digits) i) (record { digit = i; tone = on; a = a; b = b }) (saturatingInc n) digits r
       ∙ ap (λ (t : Bool). gatedOf t a b .sample) (sym (dial-sounds digits keys i on));
@@ -93,9 +61,9 @@ dial-gate digits keys r i on a b n = record {
 gated : (digits : List ℕ) → allKeys digits ≡ true → (r : ℕ) (s : StageState) → 2 ≤ stageNumber (stageOf s) → stageNumber (stageOf s) ≤ 4 → Gated s digits r
 unfolding sampleNext generateOf dialToneOf ringbackOf soundOf
 gated digits keys r (OffHook rng n) lo hi = absurd (omega arith)
-gated digits keys r (DialTone a b n) lo hi = record { a = a; b = b; sample = refl }
+gated digits keys r (DialTone a b n) lo hi = record { a = a; b = b; held = (refl, refl); sample = refl }
 gated digits keys r (Dialling i on a b n) lo hi = dial-gate digits keys r i on a b n
-gated digits keys r (Ringback a b n ring) lo hi = record { a = a; b = b; sample = rw (ring-gate (ringTone (ringTime (timeAt r n)))) }
+gated digits keys r (Ringback a b n ring) lo hi = record { a = a; b = b; held = (refl, refl); sample = rw (ring-gate (ringTone (ringTime (timeAt r n)))) }
 gated digits keys r (Ci f) lo hi = absurd (omega arith)
 gated digits keys r (Ansam c e n) lo hi = absurd (omega arith)
 gated digits keys r (CmJm f) lo hi = absurd (omega arith)
@@ -114,9 +82,15 @@ module _ (digits : List ℕ) (r : ℕ) (lo : 8000 ≤ r) (hi : r ≤ 192000) (fe
   unfolding samplesBefore total
   within = omega arith
 
+  same-steps : (k : ℕ) (a b : Nco) → Holds (stateAfter digits r (suc k)) a b → SameSteps digits r k a b
+  same-steps k a b h =
+      let g = subst (λ (t : StageState). Holds t a b → Stepped (stateAfter digits r k) t digits r a b) (sym (after-suc digits r k (fresh digits r))) (stepped digits keys r (stateAfter digits r k) a b) h in
+      record { starts = g .starts; steps = g .steps }
+
   pub float-edges : FloatEdges digits r (total r (length digits))
   float-edges = record {
-    gate = λ k l h. let g = gated digits keys r (stateAfter digits r k) l h in record { a = g .a; b = g .b; sample = g .sample };
+    gate = λ k l h. let g = gated digits keys r (stateAfter digits r k) l h in record { a = g .a; b = g .b; held = g .held; sample = g .sample };
+    steps = same-steps;
     other = λ k h. silent-stage (stateAfter digits r k) digits r h;
     later = λ k h. late-stage (stateAfter digits r k) digits r h;
     past = λ pass n h. silence-after digits r lo hi few pass n (le-trans within h) ∙ zeros n;

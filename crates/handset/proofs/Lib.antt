@@ -11,4 +11,7 @@ pub mod Lifted
 pub mod Places
 pub mod Joined
 pub mod Declining
+pub mod Gate
+pub mod Oscillators
 pub mod Float
+pub mod Reading
