@@ -24,6 +24,7 @@ use Rattle.stage.specs.Next.{dialToneOf, diallingOf, ringbackOf, generateOf, sa
 use Rattle.overture.specs.Iteration.{fresh}
 use Rattle.overture.proofs.Iteration.{after-suc}
 use Rattle.passage.specs.Lengths.{samplesBefore}
+use Rattle.passage.proofs.Overture.{overture-length}
 use Rattle.handset.specs.declared.Sound.the-variants.{Silent}
 use Rattle.handset.specs.Sound.{soundOf, stateAfter}
 use Rattle.handset.specs.Runs.{heardFrom}
@@ -89,6 +90,7 @@ module _ (digits : List ℕ) (r : ℕ) (lo : 8000 ≤ r) (hi : r ≤ 192000) (fe
 
   pub float-edges : FloatEdges digits r (total r (length digits))
   float-edges = record {
+    ends = overture-length digits r lo hi few;
     gate = λ k l h. let g = gated digits keys r (stateAfter digits r k) l h in record { a = g .a; b = g .b; held = g .held; sample = g .sample };
     steps = same-steps;
     other = λ k h. silent-stage (stateAfter digits r k) digits r h;

@@ -22,6 +22,8 @@ use Rattle.handset.specs.Rule.{plusPart, minusPart, NearSine}
 use Rattle.handset.specs.Wave.{wave}
 use Rattle.handset.specs.Sound.{soundOf, takesFresh, stateAfter, samplesAfter}
 use Rattle.handset.specs.Call.{earpieceRefusal}
+use Rattle.passage.specs.Overture.{HasLength}
+use Rattle.handset.specs.declared.Sound.the-variants.{Silent}
 use Rattle.handset.specs.Float.{isSounding, Holds, FloatEdges}
 use Rattle.handset.proofs.Entries.{right}
 use Rattle.handset.proofs.Float.{float-edges}
@@ -72,6 +74,15 @@ module _ (digits : List ℕ) (r : ℕ) (slow : 8000 ≤ r) (fast : r ≤ 192000)
 
   abbrev pub edges : FloatEdges digits r (total r (length digits))
   edges = float-edges digits r slow fast few keys
+
+  pub ends-at-T : HasLength digits r (total r (length digits))
+  ends-at-T = edges .ends
+
+  pub silent-before : stageNumber (stageOf s) ≤ 1 → soundOf s digits r ≡ Silent
+  silent-before = edges .other k
+
+  pub silent-behind : 5 ≤ stageNumber (stageOf s) → soundOf s digits r ≡ Silent
+  silent-behind = edges .later k
 
   pub starts-at-zero : Holds t a b → takesFresh s t ≡ true → (a .phase ≡ zero) × (b .phase ≡ zero)
   starts-at-zero h = edges .steps k a b h .starts

@@ -14,6 +14,7 @@ use Rattle.stage.specs.declared.StageState.{StageState}
 use Rattle.stage.specs.declared.StageState.the-variants.{OffHook, DialTone, Dialling, Ringback, Ci, Ansam, CmJm, Cj, Training, Connected}
 use Rattle.stage.specs.Stage.{stageNumber, stageOf}
 use Rattle.stage.specs.Next.{sampleNext}
+use Rattle.passage.specs.Overture.{HasLength}
 use Rattle.handset.specs.declared.Sound.{Sound}
 use Rattle.handset.specs.declared.Sound.the-variants.{Silent, Tones}
 use Rattle.handset.specs.Sound.{takesFresh, stateAfter, soundAfter, samplesAfter}
@@ -48,8 +49,9 @@ pub record SameSteps (digits : List ℕ) (r k : ℕ) (a b : Nco) : Type 0 where
   pub steps : takesFresh (stateAfter digits r k) (stateAfter digits r (suc k)) ≡ false → (x y : Nco) → Holds (stateAfter digits r k) x y
       → (a ≡ gatedOf (isSounding (soundAfter digits r k)) x y .a) × (b ≡ gatedOf (isSounding (soundAfter digits r k)) x y .b)
 
--- T is where the float overture is Connected, and from there on all is 0
+-- T is where the float overture is Connected, and not before; from there on all is 0
 pub record FloatEdges (digits : List ℕ) (r T : ℕ) : Type 0 where
+  pub ends : HasLength digits r T
   pub gate : (k : ℕ) → 2 ≤ stageNumber (stageOf (stateAfter digits r k)) → stageNumber (stageOf (stateAfter digits r k)) ≤ 4 → SameGate digits r k
   pub steps : (k : ℕ) (a b : Nco) → Holds (stateAfter digits r (suc k)) a b → SameSteps digits r k a b
   pub other : (k : ℕ) → (stageNumber (stageOf (stateAfter digits r k)) ≤ 1) → soundAfter digits r k ≡ Silent
