@@ -3,7 +3,7 @@
 use Prim.Native.Nat.{ℕ}
 use mathlib.Core.Path.{_≡_, refl}
 use mathlib.Core.Bool.{Bool, true, false}
-use mathlib.Core.List.{List}
+use mathlib.Core.List.{List, [], _∷_, map}
 use contract.Lifetimes.{Lfts}
 use denote.Ref.{RefT, now, at-last}
 use lib.Ieee.{Float}
@@ -12,6 +12,7 @@ use Rattle.at.specs.Processor.{commandMode}
 use Rattle.session.specs.declared.SessionState.{SessionState}
 use Rattle.session.specs.declared.SessionState.the-variants.{Idle}
 use Rattle.control.specs.Control.{heardIn}
+use Rattle.set.specs.declared.Typed.{Typed}
 use Rattle.uart.specs.declared.Cause.{Cause}
 use Rattle.uart.specs.declared.Cause.the-variants.{Address}
 use Rattle.uart.specs.declared.Registers.{Registers}
@@ -22,7 +23,7 @@ use Rattle.uart.specs.declared.Written.{Written}
 use Rattle.uart.specs.declared.Lapse.{Lapse}
 use Rattle.uart.specs.declared.Fill.{Fill}
 use Rattle.uart.specs.Causes.{causeNumber}
-use Rattle.uart.specs.Registers.{identification, lineStatus, modemStatus, stored}
+use Rattle.uart.specs.Registers.{resetRegisters, identification, lineStatus, modemStatus, settled, withEnable, stored, valueAt}
 use Rattle.uart.specs.Chip as chip
 use Rattle.uart.proofs.Cause.number.Reads as number
 use Rattle.uart.proofs.Chip.new.Reads as new
@@ -37,35 +38,35 @@ use Rattle.uart.proofs.Chip.write.Reads as write
 use Rattle.uart.proofs.Chip.lapse.Reads as lapse
 use Rattle.uart.proofs.Chip.fill.Reads as fill
 
-pub number-is : (cause : Cause) (n : ℕ) → number.Learnt tt (cause, tt) n (cause, tt) → n ≡ causeNumber cause
-number-is cause n d = d
+pub number-is : (cause : Cause) → number.Asked tt (cause, tt) × ((n : ℕ) → number.Learnt tt (cause, tt) n (cause, tt) → n ≡ causeNumber cause)
+number-is cause = (tt, λ n d. d)
 
 pub above-7-is-15 : causeNumber Address ≡ 15
 unfolding causeNumber
 above-7-is-15 = refl
 
-pub starts : (rate : ℕ) (a : Start) → new.Learnt tt (rate, tt) a (rate, tt) → a ≡ chip.started rate
-starts rate a d = d
+pub starts : (rate : ℕ) → new.Asked tt (rate, tt) × ((a : Start) → new.Learnt tt (rate, tt) a (rate, tt) → a ≡ chip.started rate)
+starts rate = (tt, λ a d. d)
 
 -- ---- of every chip, sound or not; no call asks anything
 module _ (c : Chip) where
-  pub sound-is : (a : Bool) → sound.Learnt tt (c, tt) a (c, tt) → a ≡ chip.sound c
-  sound-is a d = d
+  pub sound-is : sound.Asked tt (c, tt) × ((a : Bool) → sound.Learnt tt (c, tt) a (c, tt) → a ≡ chip.sound c)
+  sound-is = (tt, λ a d. d)
 
-  pub dcd-is : (a : Bool) → dcd.Learnt tt (c, tt) a (c, tt) → a ≡ heardIn (c .set .session .state) (c .registers .flag)
-  dcd-is a d = d
+  pub dcd-is : dcd.Asked tt (c, tt) × ((a : Bool) → dcd.Learnt tt (c, tt) a (c, tt) → a ≡ heardIn (c .set .session .state) (c .registers .flag))
+  dcd-is = (tt, λ a d. d)
 
-  pub mode-is : (a : Bool) → in-command-mode.Learnt tt (c, tt) a (c, tt) → a ≡ commandMode (c .set .processor)
-  mode-is a d = d
+  pub mode-is : in-command-mode.Asked tt (c, tt) × ((a : Bool) → in-command-mode.Learnt tt (c, tt) a (c, tt) → a ≡ commandMode (c .set .processor))
+  mode-is = (tt, λ a d. d)
 
-  pub state-is : (a : SessionState) → state.Learnt tt (c, tt) a (c, tt) → a ≡ c .set .session .state
-  state-is a d = d
+  pub state-is : state.Asked tt (c, tt) × ((a : SessionState) → state.Learnt tt (c, tt) a (c, tt) → a ≡ c .set .session .state)
+  state-is = (tt, λ a d. d)
 
-  pub stage-is : (a : ℕ) → stage.Learnt tt (c, tt) a (c, tt) → a ≡ c .set .session .shown
-  stage-is a d = d
+  pub stage-is : stage.Asked tt (c, tt) × ((a : ℕ) → stage.Learnt tt (c, tt) a (c, tt) → a ≡ c .set .session .shown)
+  stage-is = (tt, λ a d. d)
 
-  pub m-is : (a : ℕ) → m.Learnt tt (c, tt) a (c, tt) → a ≡ c .set .session .m
-  m-is a d = d
+  pub m-is : m.Asked tt (c, tt) × ((a : ℕ) → m.Learnt tt (c, tt) a (c, tt) → a ≡ c .set .session .m)
+  m-is = (tt, λ a d. d)
 
   pub read-is : (address : ℕ)
       → read.Asked tt (c, (address, tt))
@@ -109,6 +110,14 @@ module _ (overrun waits pending delta : Bool) where
   unfolding identification
   then-modem-status = refl
 
+  -- each by its own enable: bit 2, bit 0, bit 1, bit 3
+  pub by-its-enable : (identification 4 true waits pending delta ≡ 6)
+      × (identification 1 overrun true pending delta ≡ 4)
+      × (identification 2 overrun waits true delta ≡ 2)
+      × (identification 8 overrun waits pending true ≡ 0)
+  unfolding identification
+  by-its-enable = (refl, refl, refl, refl)
+
   pub then-none : (identification 15 false false false false ≡ 1) × (identification 0 overrun waits pending delta ≡ 1)
   unfolding identification
   then-none = (refl, refl)
@@ -121,6 +130,36 @@ status-bits = (refl, refl, refl, refl)
 pub line-bits : (lineStatus false false ≡ 96) × (lineStatus false true ≡ 97) × (lineStatus true false ≡ 98) × (lineStatus true true ≡ 99)
 unfolding lineStatus
 line-bits = (refl, refl, refl, refl)
+
+-- "at first all is as after the sheet's master reset, scratch 0": what 0 to 7 read then
+pub reads-after-reset :
+    map (valueAt resetRegisters 0 false false false) (0 ∷ 1 ∷ 2 ∷ 3 ∷ 4 ∷ 5 ∷ 6 ∷ 7 ∷ [])
+    ≡ 0 ∷ 0 ∷ 1 ∷ 0 ∷ 0 ∷ 96 ∷ 48 ∷ 0 ∷ []
+unfolding valueAt identification lineStatus modemStatus
+reads-after-reset = refl
+
+module _ (g : Registers) where
+  -- of a byte of ones the bits that the sheet keeps
+  pub kept-bits : (stored g 1 255 .enable ≡ 15) × (stored g 3 255 .line ≡ 255) × (stored g 4 255 .modem ≡ 31) × (stored g 7 255 .scratch ≡ 255)
+  unfolding stored withEnable
+  kept-bits = (refl, refl, refl, refl)
+
+  -- transmitter empty is pending "after a write that turns its enable on", and after no other write to 1
+  pub turned-on : g .pending ≡ false → g .enable ≡ 13 → stored g 1 2 .pending ≡ true
+  unfolding stored withEnable
+  turned-on none off = rw (none, off)
+
+  pub not-turned-on : g .pending ≡ false → g .enable ≡ 2 → stored g 1 15 .pending ≡ false
+  unfolding stored withEnable
+  not-turned-on none on = rw (none, on)
+
+  -- the delta lasts, whatever the flag does
+  pub delta-lasts : (before after : SessionState) (flag : Bool) → g .delta ≡ true → settled g before after flag .delta ≡ true
+  delta-lasts before after flag told = rw told
+
+-- "its interrupt is then pending": after every byte that is typed
+pub pending-when-typed : (c : Chip) (carrier : Bool) (t : Typed) → chip.transmittedIf true c carrier t .chip .registers .pending ≡ true
+pending-when-typed c carrier t = refl
 
 -- "Writes to 2, 5 and 6 .. change nothing"
 pub writes-nothing : (g : Registers) (value : ℕ) → (stored g 2 value ≡ g) × (stored g 5 value ≡ g) × (stored g 6 value ≡ g)

@@ -2,7 +2,7 @@
 -- in the middle of a list what it answers and leaves, and of the whole list what the set inside did and played. Assumes nothing.
 use Prim.Native.Nat.{ℕ}
 use mathlib.Core.Path.{_≡_, refl, ap, subst}
-use mathlib.Core.Bool.{true}
+use mathlib.Core.Bool.{Bool, true}
 use mathlib.Core.List.{List, [], _∷_, _++_, map}
 use Rattle.keys.specs.declared.Lit.the-variants as lit
 use Rattle.queue.specs.Queue.{waiting}
@@ -16,10 +16,11 @@ use Rattle.claim.specs.Sent.{Sends}
 use Rattle.claim.specs.Strings.{Step, single, lastSet, allSingles, allCalls, AllStepsAnswered, Holds}
 use Rattle.uart.specs.declared.Start.{Start}
 use Rattle.uart.specs.declared.Chip.{Chip}
+use Rattle.uart.specs.declared.Lapse.{Lapse}
 use Rattle.uart.specs.Causes.{causeNumber}
 use Rattle.uart.specs.Chip.{started}
 use Rattle.wired.specs.Table.{Ask, Table, reset, declinedBy, valueBy, sentBy, outboxBy, keyBy, next, tableAfter}
-use Rattle.wired.specs.Trace.{Event, Trace, chipAfter, allInside, Unchanged}
+use Rattle.wired.specs.Trace.{Event, waitEvent, Trace, chipAfter, allInside, Unchanged}
 use Rattle.wired.specs.Wired.{Answered, AllAnswered, Serves, Served}
 use Rattle.wired.proofs.start.Reads as start
 
@@ -48,6 +49,14 @@ last-is s (e ∷ es) = last-is (e .set) es
 each-is : (r : ℕ) (s : Set) (k : Book) (es : List inner.Event) → AllStepsAnswered r s k (map single es) → calls.AllAnswered r s k es
 each-is r s k [] told = tt
 each-is r s k (e ∷ es) (answered, rest) = (answered, each-is r (e .set) _ es rest)
+
+-- a lapse is told with its own refusal, which the table then says is none
+pub wait-told : (ns : ℕ) (carrier : Bool) (a : Lapse) → waitEvent ns carrier a .refusal ≡ a .refusal
+wait-told ns carrier a = refl
+
+-- `start` asks nothing of the rate
+pub asks-nothing : (rate : ℕ) → start.Asked tt (rate, tt)
+asks-nothing rate = tt
 
 -- from the chip that `start` hands out
 module _ (rate : ℕ) (answer : Start) (d : start.Learnt tt (rate, tt) answer (rate, tt)) where
