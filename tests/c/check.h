@@ -1,4 +1,4 @@
-/* What the tests of calls that need no set share: a fact that has to hold, and numbers at random. */
+/* What the tests from C share: a fact that has to hold, and numbers at random. */
 #define _DEFAULT_SOURCE
 #include "gibbonplate.h"
 #include <stdio.h>
@@ -17,10 +17,15 @@ static void failed(const char *file, const char *fact, int line)
 
 static uint64_t seed = 0x2545F4914F6CDD1D;
 
-static uint32_t below(uint32_t n)
+static inline uint64_t random64(void)
 {
     seed ^= seed << 13;
     seed ^= seed >> 7;
     seed ^= seed << 17;
-    return (uint32_t)((seed * 0x2545F4914F6CDD1D >> 33) % n);
+    return seed * 0x2545F4914F6CDD1D;
+}
+
+static inline uint32_t below(uint32_t n)
+{
+    return (uint32_t)((random64() >> 11) % n);
 }

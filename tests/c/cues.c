@@ -7,41 +7,19 @@
  * which fresh oscillators make; its second is none. So a digit begins with the sample before the first that
  * sounds, and that has to be its cue. Exits with 1 where one is not.
  */
-#include "gibbonplate.h"
-#include <stdio.h>
-#include <stdlib.h>
-
-static uint64_t seed = 0x2545F4914F6CDD1D;
-
-static uint64_t below(uint64_t n)
-{
-    seed ^= seed << 13;
-    seed ^= seed >> 7;
-    seed ^= seed << 17;
-    return (seed * 0x2545F4914F6CDD1D >> 11) % n;
-}
-
-static void type(gibbonplate_set *set, uint8_t byte)
-{
-    gibbonplate_answer answer;
-    uint8_t outbox[GIBBONPLATE_MIN_OUTBOX];
-
-    if (gibbonplate_feed(set, byte, false, outbox, sizeof outbox, &answer) != GIBBONPLATE_ACCEPTED)
-        exit(1);
-}
+#include "typing.h"
 
 static void dial(gibbonplate_set *set, uint32_t rate)
 {
-    const char *prefix = "ATDT";
+    char digits[GIBBONPLATE_MAX_DIGITS + 1] = {0};
     int i;
 
-    if (gibbonplate_new(set, rate) != GIBBONPLATE_ACCEPTED)
-        exit(1);
-    while (*prefix)
-        type(set, (uint8_t)*prefix++);
     for (i = 0; i < GIBBONPLATE_MAX_DIGITS; i++)
-        type(set, (uint8_t)"123A456B789C*0#D"[below(16)]);
-    type(set, '\r');
+        digits[i] = "123A456B789C*0#D"[below(16)];
+    CHECK(gibbonplate_new(set, rate) == GIBBONPLATE_ACCEPTED);
+    type(set, "ATDT");
+    type(set, digits);
+    type(set, "\r");
 }
 
 static void heard(const gibbonplate_set *set, uint32_t position, uint64_t number)
@@ -66,8 +44,7 @@ static void listen(uint32_t rate)
 
     dial(&set, rate);
     while (gibbonplate_stage(&set) < 4) {
-        if (gibbonplate_process_out(&set, &sample, 1, key) != GIBBONPLATE_ACCEPTED)
-            exit(1);
+        CHECK(gibbonplate_process_out(&set, &sample, 1, key) == GIBBONPLATE_ACCEPTED);
         if (gibbonplate_stage(&set) != 3)
             continue;
         /* A gap has more than one zero; a tone may pass through one. */
@@ -95,7 +72,7 @@ int main(int count, char **words)
     for (i = 0; i < (long)(sizeof rates / sizeof *rates); i++)
         listen(rates[i]);
     for (i = 0; i < random; i++)
-        listen((uint32_t)(8000 + below(184001)));
+        listen(8000 + below(184001));
     printf("the cues of 76 digits are their first samples, at %zu rates and %ld random ones\n", sizeof rates / sizeof *rates, random);
     return 0;
 }

@@ -7,39 +7,16 @@
  * same call is played in fills of any length, empty ones too: each gives the key of its last sample. At nine
  * rates and TIMES random ones. Exits with 1 where a key is not the one that is heard.
  */
-#include "gibbonplate.h"
+#include "typing.h"
 #include <math.h>
-#include <stdio.h>
-#include <stdlib.h>
-#include <string.h>
 
 static const char *const keypad = "123A456B789C*0#D";
 static const double rows[4] = {697, 770, 852, 941}, columns[4] = {1209, 1336, 1477, 1633};
 
-static uint64_t seed = 0x2545F4914F6CDD1D;
-
-static uint64_t below(uint64_t n)
-{
-    seed ^= seed << 13;
-    seed ^= seed >> 7;
-    seed ^= seed << 17;
-    return (seed * 0x2545F4914F6CDD1D >> 11) % n;
-}
-
-static void failed(uint32_t rate, size_t sample, const char *what)
+static void wrong(uint32_t rate, size_t sample, const char *what)
 {
     fprintf(stderr, "tests/c/lit.c: at %u, sample %zu: %s\n", (unsigned)rate, sample, what);
     exit(1);
-}
-
-static void type(gibbonplate_set *set, const char *text)
-{
-    uint8_t outbox[GIBBONPLATE_MIN_OUTBOX];
-    gibbonplate_answer answer;
-
-    while (*text)
-        if (gibbonplate_feed(set, (uint8_t)*text++, false, outbox, sizeof outbox, &answer) != GIBBONPLATE_ACCEPTED)
-            exit(1);
 }
 
 /* How much of a frequency there is in the samples. */
@@ -96,7 +73,7 @@ static void listen(uint32_t rate)
 
     for (set = dialled; count < sizeof samples / sizeof *samples && gibbonplate_stage(&set) < 4; count++) {
         if (gibbonplate_process_out(&set, &samples[count], 1, keys[count]) != GIBBONPLATE_ACCEPTED)
-            failed(rate, count + 1, "the fill is declined");
+            wrong(rate, count + 1, "the fill is declined");
         stages[count] = gibbonplate_stage(&set);
     }
     for (at = 0; at < count; at = i) {
@@ -104,20 +81,20 @@ static void listen(uint32_t rate)
 
         for (i = at; i < count && memcmp(keys[i], keys[at], 2) == 0 && stages[i] == stages[at]; i++)
             if (stages[i] == 3 && !lit && samples[i] != 0)
-                failed(rate, i + 1, "it sounds, and no key is lit");
+                wrong(rate, i + 1, "it sounds, and no key is lit");
         if (!lit && keys[at][1] == GIBBONPLATE_NO_KEY)
             continue;
         if (keys[at][0] > 3 || keys[at][1] > 3 || stages[at] != 3)
-            failed(rate, at + 1, "it is no key of Dialling");
+            wrong(rate, at + 1, "it is no key of Dialling");
         if (i - at + 1 < rate / 10 || i - at > rate / 10 + 1)
-            failed(rate, at + 1, "the key is not lit for a tenth of a second");
+            wrong(rate, at + 1, "the key is not lit for a tenth of a second");
         if (strongest(samples + at, i - at, rows, rate) != keys[at][0] || strongest(samples + at, i - at, columns, rate) != keys[at][1])
-            failed(rate, at + 1, "the key that is lit is not the one that is heard");
+            wrong(rate, at + 1, "the key that is lit is not the one that is heard");
         if (digit == 16 || keypad[4 * keys[at][0] + keys[at][1]] != digits[digit++])
-            failed(rate, at + 1, "the key that is lit is not the digit");
+            wrong(rate, at + 1, "the key that is lit is not the digit");
     }
     if (digit != 16)
-        failed(rate, count, "not every digit was lit");
+        wrong(rate, count, "not every digit was lit");
 
     for (set = dialled, at = 0; at < count;) {
         static float again[65536];
@@ -127,10 +104,10 @@ static void listen(uint32_t rate)
         if (len > count - at)
             len = count - at;
         if (gibbonplate_process_out(&set, again, len, key) != GIBBONPLATE_ACCEPTED)
-            failed(rate, at, "the fill is declined");
+            wrong(rate, at, "the fill is declined");
         at += len;
         if (len == 0 ? key[0] != GIBBONPLATE_NO_KEY || key[1] != GIBBONPLATE_NO_KEY : memcmp(key, keys[at - 1], 2) != 0)
-            failed(rate, at, "a longer fill does not give the key of its last sample");
+            wrong(rate, at, "a longer fill does not give the key of its last sample");
     }
 }
 

@@ -5,43 +5,13 @@
  * nothing else does. Once the line is up a place is free with the sample at which a frame begins, ten symbols after the one before. What is
  * heard is the same however the buffers are cut, at nine rates and TIMES random ones, and so is the set then. Exits with 1 where it is not so.
  */
-#include "gibbonplate.h"
+#include "typing.h"
 #include <math.h>
-#include <stdio.h>
-#include <stdlib.h>
-#include <string.h>
 
 enum { HEARD = 20000, BYTES = 24 };
 
-#define CHECK(fact) ((fact) ? (void)0 : failed(#fact, __LINE__))
-
-static void failed(const char *fact, int line)
-{
-    fprintf(stderr, "tests/c/queue.c:%d: not so: %s\n", line, fact);
-    exit(1);
-}
-
 static float samples[GIBBONPLATE_MAX_FILL + 1];
 static uint8_t key[2];
-
-static uint64_t seed = 0x2545F4914F6CDD1D;
-
-static uint64_t below(uint64_t n)
-{
-    seed ^= seed << 13;
-    seed ^= seed >> 7;
-    seed ^= seed << 17;
-    return (seed * 0x2545F4914F6CDD1D >> 11) % n;
-}
-
-static void type(gibbonplate_set *set, const char *text)
-{
-    uint8_t outbox[GIBBONPLATE_MIN_OUTBOX];
-    gibbonplate_answer answer;
-
-    while (*text)
-        CHECK(gibbonplate_feed(set, (uint8_t)*text++, false, outbox, sizeof outbox, &answer) == 0);
-}
 
 static void passes(gibbonplate_set *set, uint64_t ns, bool carrier)
 {

@@ -5,10 +5,7 @@
  * from 0 and in order, with -1 while the call is still dialled; buffers are as long as BUFFER says, but end where
  * a byte is to be queued. Exits with 1 where a call is declined.
  */
-#include "gibbonplate.h"
-#include <stdio.h>
-#include <stdlib.h>
-#include <string.h>
+#include "typing.h"
 
 static void expect(bool so, const char *what)
 {
@@ -16,15 +13,6 @@ static void expect(bool so, const char *what)
         fprintf(stderr, "tests/c/sent.c: %s\n", what);
         exit(1);
     }
-}
-
-static void type(gibbonplate_set *set, const char *text)
-{
-    uint8_t outbox[GIBBONPLATE_MIN_OUTBOX];
-    gibbonplate_answer answer;
-
-    while (*text)
-        expect(gibbonplate_feed(set, (uint8_t)*text++, false, outbox, sizeof outbox, &answer) == GIBBONPLATE_ACCEPTED, "a typed byte is declined");
 }
 
 /* Queues the bytes whose time has come, and answers how many have. */

@@ -11,21 +11,7 @@
  * What is lent lies against a page that may not be touched, at its end or its front by turns, so a
  * step outside ends the program. Exits with 1 where something is not as it should be.
  */
-#define _DEFAULT_SOURCE
-#include "gibbonplate.h"
-#include <stdio.h>
-#include <stdlib.h>
-#include <string.h>
-#include <sys/mman.h>
-#include <unistd.h>
-
-#define CHECK(fact) ((fact) ? (void)0 : failed(#fact, __LINE__))
-
-static void failed(const char *fact, int line)
-{
-    fprintf(stderr, "tests/c/set.c:%d: not so: %s\n", line, fact);
-    exit(1);
-}
+#include "typing.h"
 
 /* What the last fill or cue gave. */
 static uint8_t key[2];
@@ -38,21 +24,6 @@ static bool lit(uint8_t row, uint8_t column)
 static bool unlit(void)
 {
     return lit(GIBBONPLATE_NO_KEY, GIBBONPLATE_NO_KEY);
-}
-
-static uint64_t seed = 0x2545F4914F6CDD1D;
-
-static uint64_t random64(void)
-{
-    seed ^= seed << 13;
-    seed ^= seed >> 7;
-    seed ^= seed << 17;
-    return seed * 0x2545F4914F6CDD1D;
-}
-
-static uint64_t below(uint64_t n)
-{
-    return (random64() >> 11) % n;
 }
 
 /* Memory of so many bytes with a page before it and one behind it that may not be touched. */
@@ -77,15 +48,6 @@ static void *lent(room r, size_t size, bool behind)
 {
     CHECK(size <= r.size);
     return behind ? r.bytes + r.size - size : r.bytes;
-}
-
-static void type(gibbonplate_set *set, const char *text)
-{
-    uint8_t outbox[GIBBONPLATE_MIN_OUTBOX];
-    gibbonplate_answer answer;
-
-    for (; *text; text++)
-        CHECK(gibbonplate_feed(set, (uint8_t)*text, false, outbox, sizeof outbox, &answer) == 0);
 }
 
 /* ---- a whole call */
