@@ -13,9 +13,10 @@ mod lent;
 #[path = "port.rs"]
 mod port;
 
+use at::{AtProcessor, Response};
 use lent::Lent;
 use port::Start;
-use set::Set;
+use session::Session;
 use std::hint::black_box;
 
 const DIGITS: &[u8] = b"5551234";
@@ -63,32 +64,49 @@ fn main() {
     println!("\nthe bits of all samples above are equal");
 }
 
-/// The Rust where a call begins.
-fn rust_at(start: Start) -> Set {
-    let (_, mut set) = Set::new(start.rate as u128);
-    for &byte in b"ATDT".iter().chain(start.digits).chain(b"\r") {
-        set.feed(byte, false, 4);
+/// The Rust by itself: the oracle's layer for 02's requests stays out of what is timed.
+struct Rust {
+    at: AtProcessor,
+    session: Session,
+}
+
+impl Rust {
+    /// The Rust where a call begins.
+    fn at(start: Start) -> Rust {
+        let mut rust = Rust { at: AtProcessor::new(), session: Session::new(start.rate) };
+        for &byte in b"ATDT".iter().chain(start.digits).chain(b"\r") {
+            rust.feed(byte, false);
+        }
+        let mut scratch = [0.0; 4096];
+        let mut left = start.skip;
+        while left > 0 {
+            let part = left.min(scratch.len());
+            rust.process_out(&mut scratch[..part]);
+            left -= part;
+        }
+        rust
     }
-    let mut scratch = [0.0; 4096];
-    let mut left = start.skip;
-    while left > 0 {
-        let part = left.min(scratch.len());
-        set.process_out(&mut scratch[..part]);
-        left -= part;
+
+    fn feed(&mut self, byte: u8, carrier: bool) -> Option<Response> {
+        self.session.begin_call(carrier);
+        self.at.feed(byte, &mut self.session)
     }
-    set
+
+    fn process_out(&mut self, out: &mut [f32]) {
+        self.session.process_out(out);
+    }
 }
 
 /// How many samples stages 1 to 9 have, by the stage that the Rust shows after each sample.
 fn stage_lengths(rate: u32, digits: &[u8]) -> [usize; 9] {
-    let mut set = rust_at(Start { rate, digits, skip: 0 });
+    let mut rust = Rust::at(Start { rate, digits, skip: 0 });
     let mut lengths = [0; 9];
     loop {
-        set.process_out(&mut [0.0]);
-        if set.state() == 3 {
-            return lengths;
+        rust.process_out(&mut [0.0]);
+        match rust.session.stage() {
+            Some(stage) => lengths[stage as usize] += 1,
+            None => return lengths,
         }
-        lengths[set.stage() as usize - 1] += 1;
     }
 }
 
@@ -143,10 +161,10 @@ impl Bench {
         let mut port_out = vec![2.0; samples];
         let (mut rust, mut port, mut begun) = (f64::MAX, f64::MAX, f64::MAX);
         for _ in 0..self.rounds {
-            let mut set = rust_at(start);
+            let mut call = Rust::at(start);
             rust = rust.min(nanoseconds(|| {
                 for part in rust_out.chunks_mut(length) {
-                    set.process_out(part);
+                    call.process_out(part);
                 }
             }));
             begun = begun.min(nanoseconds(|| {
@@ -271,10 +289,10 @@ impl Bench {
         println!("\na call on a set in Dialling with 76 digits, ns");
         println!("{:<21} {:>8} {:>8} {:>12}", "", "Rust", "port", "port from C");
         let rust = self.best(|| {
-            let mut set = rust_at(start);
+            let mut call = Rust::at(start);
             nanoseconds(|| {
                 for _ in 0..CALLS {
-                    black_box(set.feed(b'A', true, 4));
+                    black_box(call.feed(b'A', true));
                 }
             })
         });
@@ -301,10 +319,10 @@ impl Bench {
         });
         println!("{:<21} {:>8} {port:>8.1} {lent:>12.1}", "a string of 11 bytes", "-");
         let rust = self.best(|| {
-            let mut set = rust_at(start);
+            let mut call = Rust::at(start);
             nanoseconds(|| {
                 for _ in 0..CALLS {
-                    black_box(set.process_out(black_box(&mut [])));
+                    call.process_out(black_box(&mut []));
                 }
             })
         });
@@ -323,7 +341,6 @@ impl Bench {
         println!("{:<21} {:>8} {port:>8.1}", "soundness alone", "-");
     }
 
-    /// T before the call, against filling the call that it tells of.
     /// 02's E7: the frames of 400 random bytes, ones between them, read back; the Rust's `Deframer` bit by bit.
     fn bits(&self) {
         let mut list = Vec::new();
@@ -344,6 +361,7 @@ impl Bench {
         println!("\na bit read back, nanoseconds: {rust:.2} the Rust's, {port:.2} the port's");
     }
 
+    /// T before the call, against filling the call that it tells of.
     fn plans(&self) {
         println!("\nT before the call, against filling it in buffers of 4096, microseconds");
         println!("{:>10} {:>10} {:>10} {:>10} {:>10} {:>10}", "rate", "digits", "T", "before", "filling", "times");
