@@ -19,7 +19,7 @@ use Rattle.set.specs.Event.{Event, lapsedEvent, forcedEvent, queuedEvent}
 use Rattle.set.proofs.Before.{typed-as-before, outbox-as-before, lapsed-as-before, typed-keeps-s12, lapsed-keeps-s12, forced-keeps-s12, fill-keeps-s12, queued-keeps-s12}
 use Rattle.claim.specs.Trace.{Did, typed, lapsed, forced, filled, queued, Trace}
 use Rattle.claim.specs.Strings.{allSingles}
-use Rattle.claim.specs.Before.{endsS12, NoS12Line, before, AsBefore, AllAsBefore, Unset}
+use Rattle.claim.specs.Before.{endsS12, NoS12Line, AsBefore, AllAsBefore, Unset}
 use Rattle.claim.proofs.Strings.{claim}
 
 one : (s : Set) → set.s12Of s ≡ freshS12 → (e : Event) → Did s e → endsS12 s (e .call) ≡ false → AsBefore s e

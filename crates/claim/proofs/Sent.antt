@@ -1,6 +1,6 @@
 -- What was queued and sent, at every point of a list: each call keeps it. Until the line is up no symbol is begun, and what waits then waits for a
 -- fresh sender, so that the line's going up changes nothing of it. Assumes nothing.
-use Prim.Native.Nat.{ℕ, _+_}
+use Prim.Native.Nat.{ℕ}
 use mathlib.Core.Path.{_≡_, refl}
 use mathlib.Core.Bool.{Bool, true, false}
 use mathlib.Core.List.{List}
@@ -17,10 +17,10 @@ use Rattle.sender.specs.declared.Sending.{Sending}
 use Rattle.sender.specs.Sender.{queued, raised}
 use Rattle.sender.proofs.Sofar.{Sofar, sofar-start, sofar-queued, sofar-filled, sofar-carries, sofar-sounds}
 use Rattle.set.specs.Set.{raisedIf}
-use Rattle.set.specs.Book.{Book, blank, applied, shownBy, stateIf, afterFill, filledIn, Entry, declined, asks, fills, queues, nextBook}
+use Rattle.set.specs.Book.{Book, blank, applied, shownBy, stateIf, filledIn, Entry, declined, asks, fills, queues, nextBook}
 use Rattle.set.proofs.Follows.{InLimits, Wrote}
 use Rattle.claim.specs.Sent.{Sent, nothingSent, sentQueued, Sends}
-use Rattle.claim.specs.Claim.{SinceDial, notCalled, notedControl, notedFill, noted}
+use Rattle.claim.specs.Claim.{SinceDial, notedControl, notedFill, noted}
 
 module _ (r : ℕ) where
   -- what the next symbols are sent from

@@ -38,7 +38,7 @@ use Rattle.claim.specs.Strings.{Step, single, string, setOf, History, la
 use Rattle.claim.proofs.Sent.{sends}
 use Rattle.claim.proofs.Joined.{book-joined}
 use Rattle.claim.proofs.Strings.{singly-calls, fresh-runs}
-use Rattle.claim.proofs.Lists.{Act, allAsked, every-list}
+use Rattle.claim.proofs.Lists.{allAsked, every-list}
 use Rattle.claim.proofs.Worked as worked
 use Rattle.claim.proofs.Worked.{T, At, calls, acts, lendingZeros, worked-book}
 

@@ -1,6 +1,5 @@
 -- 02, E6: decimal digits up to 255, read one a turn. What is left decides, and a number that has passed 255 stays past it. Assumes nothing.
 use Prim.Native.Nat.{ℕ, _+_, _-_, _*_, _≤_, _<_}
-use Prim.Native.Char.{code}
 use native.Mathlib.Omega.{arith}
 use native.Mathlib.Numerals.{add-one}
 use mathlib.Core.Path.{_≡_, refl, sym, ap, _∙_}

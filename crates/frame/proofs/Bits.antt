@@ -13,7 +13,7 @@ use borrow.Author.Tests.{lt-ltb, le-ltb, ltb-true, ltb-false}
 use Rattle.frame.specs.Frame.{frameOf, framed, bitAt}
 
 -- below the length nothing hangs on what stands for a missing element
-within : (l : List Bool) (k : ℕ) (d e : Bool) → k < length l → getD l k d ≡ getD l k e
+pub within : (l : List Bool) (k : ℕ) (d e : Bool) → k < length l → getD l k d ≡ getD l k e
 within [] k d e h = absurd (not-suc-le-zero h)
 within (x ∷ l) zero d e h = refl
 within (x ∷ l) (suc k) d e h = within l k d e (le-of-suc-le-suc h)

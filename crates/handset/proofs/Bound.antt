@@ -5,7 +5,7 @@ use mathlib.Core.Bool.{Bool, true, false, _&&_}
 use Prim.Native.Nat.{ℕ, zero, suc, _+_, _-_, _*_, _^_, _≤_, _<_}
 use native.Mathlib.Nat.{le-trans, mul-pos, mul-le-mul, mul-le-mul-left, mul-le-mul-right, le-of-mul-le-mul-right, pow-zero, pow-suc, suc-add}
 use native.Mathlib.Omega.{arith}
-use lib.Dec.{T, leb, leb→le, lit≤, lit<}
+use lib.Dec.{T, leb→le, lit≤, lit<}
 use lib.IntN.{ℤ}
 use Rattle.handset.specs.Sine.{plusTerms, minusTerms, denominator, plusTerms3, minusTerms3, denominator3, growth3, growth5}
 use Rattle.handset.specs.Rule.{plusPart, minusPart, NearSine, piLow, piHigh, piScale, IsSine}

@@ -11,7 +11,6 @@ use lib.ListN.{length, take, drop, getD, length-set, length-append, length-drop,
 use lib.Seq.{take-suc-set, take-append-le}
 use borrow.Author.Tests.{eqb-true, leb-false}
 use Rattle.queue.specs.declared.Queue.{Queue}
-use Rattle.queue.specs.declared.Pushed.{Pushed}
 use Rattle.queue.specs.Queue.{waiting, emptyQueue, isFull, isEmpty, pushedIf, pushed, takenIf, oldest, poppedIf, popped}
 
 -- 256 places, and no more waiting

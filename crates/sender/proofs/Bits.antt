@@ -3,11 +3,11 @@
 use Prim.Native.Nat.{ℕ, zero, suc, _+_, _≤_, _<_}
 use native.Mathlib.Numerals.{add-one}
 use native.Mathlib.Omega.{arith}
-use mathlib.Core.Path.{_≡_, refl, sym, ap, subst, _∙_}
+use mathlib.Core.Path.{_≡_, refl, sym, ap}
 use mathlib.Core.Bool.{Bool, true, false, true≢false, _&&_}
 use mathlib.Core.List.{List, [], _∷_, _++_, append-assoc}
 use lib.Dec.{ltb}
-use lib.ListN.{length, take, drop, getD, drop-of-length-le}
+use lib.ListN.{take, drop, drop-of-length-le}
 use lib.Seq.{drop-cons}
 use borrow.Author.Tests.{ltb-false}
 use Rattle.frame.specs.Frame.{frameOf}
@@ -15,7 +15,7 @@ use Rattle.frame.proofs.Bits.{frame-length}
 use Rattle.queue.specs.Queue.{waiting, oldest}
 use Rattle.queue.proofs.Waiting.{none-waits}
 use Rattle.sender.specs.declared.Sending.{Sending}
-use Rattle.sender.specs.Sender.{unfinished, Choice, onward, anew, idle, choiceOf, bitBy, byteBy, begunBy, chosen, chosenBy, readyIf, ticked, next, frameBit}
+use Rattle.sender.specs.Sender.{unfinished, Choice, onward, anew, idle, choiceOf, bitBy, chosen, chosenBy, readyIf, ticked, next, frameBit}
 use Rattle.sender.specs.Wave.{after}
 use Rattle.sender.proofs.Frames.{some-bits}
 use Rattle.sender.specs.Symbols.{Symbol, bitsOf, symbolAt, byteAt, byteChosen, symbols, bytes}

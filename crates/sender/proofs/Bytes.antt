@@ -1,8 +1,8 @@
 -- The bytes that wait are those whose frames are begun with the next samples, and then those that still wait. Assumes nothing.
 use Prim.Native.Nat.{ℕ, zero, suc}
-use mathlib.Core.Path.{_≡_, refl, sym, ap, subst, _∙_}
+use mathlib.Core.Path.{_≡_, refl, _∙_}
 use mathlib.Core.Bool.{Bool, true, false}
-use mathlib.Core.List.{List, [], _∷_, _++_, append-assoc}
+use mathlib.Core.List.{List, _++_, append-assoc}
 use Rattle.queue.specs.declared.Queue.{Queue}
 use Rattle.queue.specs.Queue.{waiting}
 use Rattle.queue.proofs.Waiting.{Whole, some-wait}
@@ -10,7 +10,7 @@ use Rattle.sender.specs.declared.Sending.{Sending}
 use Rattle.sender.specs.Sender.{Choice, onward, anew, idle, choiceOf, chosen, chosenBy, readyIf, next}
 use Rattle.sender.specs.Wave.{after}
 use Rattle.sender.specs.Symbols.{byteChosen, byteAt, bytes}
-use Rattle.sender.proofs.Edges.{moved, next-is, Found, found}
+use Rattle.sender.proofs.Edges.{next-is, Found, found}
 
 -- of the bytes that wait, `begun` are begun, and then the queue is q
 pub record Left (x : Sending) (begun : List ℕ) (q : Queue) : Type 0 where

@@ -1,5 +1,4 @@
 -- What is next, by whether the sample is an edge and by what the edge chooses, and what was the case where it chose so. Assumes nothing.
-use Prim.Native.Nat.{ℕ}
 use mathlib.Core.Path.{_≡_, refl}
 use mathlib.Core.Bool.{Bool, true, false}
 use Rattle.queue.specs.Queue.{isEmpty}

@@ -7,7 +7,6 @@ use lib.Ieee.{Float}
 use Rattle.queue.specs.declared.Queue.{Queue}
 use Rattle.queue.specs.Queue.{waiting, isFull}
 use Rattle.queue.proofs.Waiting.{Whole, pushed-newest, pushed-whole}
-use Rattle.sender.specs.declared.Sender.{Sender}
 use Rattle.sender.specs.declared.Sending.{Sending}
 use Rattle.sender.specs.Sender.{freshSender, queued}
 use Rattle.sender.specs.Wave as wave
@@ -16,7 +15,7 @@ use Rattle.sender.specs.Symbols.{Symbol, bitsOf, symbols, bytes}
 use Rattle.sender.specs.Sounds.{Sounds, silence, freshKeying}
 use Rattle.sender.specs.Carries.{Carries}
 use Rattle.sender.proofs.Bytes.{after-left}
-use Rattle.sender.proofs.Bits.{Follows, free, cut, whole, From, at-rest, after-from}
+use Rattle.sender.proofs.Bits.{free, cut, whole, From, at-rest, after-from}
 use Rattle.sender.proofs.Waves.{keyingOf, after-sounds}
 
 -- since the line went up: `taken` the bytes that waited then and those queued since, `begun` those whose frames were begun, `sent` the symbols, `joined` the buffers

@@ -1,7 +1,6 @@
 -- The program `serial`: the chip after a line's call, and what is printed for the line: `refusal,value,mode,state,stage,m,sent`, the value read (0 else), the
 -- bytes sent in hexadecimal or `-`; nothing for another line.
 use Prim.Native.Nat.{ℕ, min}
-use mathlib.Core.Bool.{Bool, true, false}
 use mathlib.Core.List.{List, [], _∷_}
 use lib.ListN.{length, take, replicate}
 use Rattle.ascii.specs.Ascii.{ascii}

@@ -2,7 +2,7 @@
 -- decimal digits. A line is read byte by byte; other lines ask for nothing.
 use Prim.Native.Char.{code}
 use Prim.Native.Nat.{ℕ, zero, suc, _+_, _-_, _*_, _^_, min}
-use mathlib.Core.Bool.{Bool, true, false, _&&_, _||_, not}
+use mathlib.Core.Bool.{Bool, true, false, _&&_, _||_}
 use mathlib.Core.List.{List, foldl}
 use lib.Dec.{leb, ltb, eqb}
 use Rattle.console.specs.Lines.{is, isDigit}

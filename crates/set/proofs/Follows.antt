@@ -51,8 +51,8 @@ use Rattle.set.specs.declared.Refusal.the-variants.{Accepted}
 use Rattle.set.specs.Refusals.{refusalNumber, causeOfTyping, causeOfFill, causeOfQueuing, accepted, either, ifAccepted}
 use Rattle.set.specs.Sound.{sound}
 use Rattle.control.specs.Control.{heardIn, heard, controlled}
-use Rattle.set.specs.Set.{moved, sendingFor, typingCause, byteTaken, typed, lapseCause, lapsed, forcedCause, forced, isUpIn, isUp, raisedIf, sendingAfter, filledSet, writtenIf, fillCause, fill, buffer, queuingCause, byteQueued}
-use Rattle.set.specs.Book.{typing, time, forcing, filling, queuing, Book, stageOfSample, keyOfSample, fedBy, lapsedBy, applied, shownBy, stateIf, shownIf, afterFill, sendingNow, filledIn, Entry, declined, asks, fills, queues, unlessDeclined, entryOf, keyBy, keyOfEntry, numberOf, nextBook}
+use Rattle.set.specs.Set.{moved, sendingFor, typingCause, byteTaken, typed, lapseCause, lapsed, forcedCause, forced, isUpIn, isUp, raisedIf, filledSet, writtenIf, fillCause, fill, buffer, queuingCause, byteQueued}
+use Rattle.set.specs.Book.{typing, time, forcing, filling, queuing, Book, stageOfSample, keyOfSample, fedBy, lapsedBy, applied, shownBy, stateIf, shownIf, afterFill, filledIn, Entry, declined, asks, fills, queues, unlessDeclined, entryOf, keyBy, keyOfEntry, numberOf, nextBook}
 use Rattle.set.proofs.Ranges.{ranges, in-ranges}
 use Rattle.set.proofs.Soundness.{after-sound, few-typed, byte-sound, time-sound, forced-sound}
 

@@ -1,7 +1,7 @@
 -- A session whose line is up stays as it is in a fill, which lights no key. By cases of the state. Assumes nothing.
 use Prim.Native.Nat.{ℕ}
-use mathlib.Core.Path.{_≡_, refl, sym, ap, subst, _∙_}
-use mathlib.Core.Bool.{true, false, true≢false}
+use mathlib.Core.Path.{_≡_, refl, sym, ap}
+use mathlib.Core.Bool.{true, true≢false}
 use Rattle.keys.specs.declared.Lit.the-variants.{None}
 use Rattle.session.specs.declared.Session.{Session}
 use Rattle.session.specs.declared.SessionState.{SessionState}

@@ -1,16 +1,15 @@
 -- A sound sender, whatever waits for it, is sound after any number of samples; a fresh one is, and what is queued or emptied leaves it as it is. Of
 -- senders whose floats are numbers of binary64, as in any that code holds. Assumes nothing.
-use Prim.Native.Nat.{ℕ, zero, suc, _+_, _-_, _≤_}
+use Prim.Native.Nat.{ℕ, zero, suc, _-_, _≤_}
 use native.Mathlib.Omega.{arith}
 use mathlib.Core.Path.{_≡_, refl}
 use mathlib.Core.Bool.{Bool, true, false, and-eq-true-iff}
-use lib.Dec.{leb, lit≤}
+use lib.Dec.{lit≤}
 use borrow.Author.Tests.{leb-true, leb-false, le-leb}
 use Rattle.queue.specs.declared.Queue.{Queue}
 use Rattle.queue.specs.Queue.{isEmpty, poppedIf, popped, isFull, pushedIf, pushed, queueOk}
-use Rattle.sender.specs.declared.Sender.{Sender}
 use Rattle.sender.specs.declared.Sending.{Sending}
-use Rattle.sender.specs.Sender.{mark, space, freshSender, freshSending, Choice, onward, anew, idle, choiceOf, bitBy, begunBy, chosenBy, chosen, readyIf, ready, ticked, next, queued, emptied, raised}
+use Rattle.sender.specs.Sender.{mark, space, freshSender, freshSending, Choice, onward, anew, idle, choiceOf, bitBy, chosenBy, chosen, readyIf, ticked, next, queued, emptied, raised}
 use Rattle.sender.specs.Wave.{after}
 use Rattle.sender.proofs.Frames.{some-bits}
 use Rattle.sender.proofs.Edges.{next-is, Found, found}

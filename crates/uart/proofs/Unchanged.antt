@@ -3,14 +3,13 @@
 use Prim.Native.Nat.{ℕ, zero, suc}
 use mathlib.Core.Path.{_≡_, refl, sym, ap, _∙_}
 use mathlib.Core.Bool.{Bool, true, false, or-false, true≢false, and-eq-true-iff}
-use mathlib.Core.List.{List, []}
+use mathlib.Core.List.{List}
 use lib.Dec.{leb}
 use borrow.Author.Tests.{eq-eqb}
 use lib.ListN.{length}
 use lib.Ieee.{Float}
 use Rattle.keys.specs.declared.Lit.the-variants as lit
 use Rattle.reply.specs.declared.Reply.the-variants.{None}
-use Rattle.session.specs.declared.SessionState.{SessionState}
 use Rattle.control.specs.Control.{heardIn}
 use Rattle.set.specs.declared.Set.{Set}
 use Rattle.set.specs.declared.Refusal.{Refusal}
@@ -20,10 +19,9 @@ use Rattle.set.specs.Set as set
 use Rattle.set.proofs.Unchanged.{unchanged}
 use Rattle.uart.specs.declared.Cause.{Cause}
 use Rattle.uart.specs.declared.Chip.{Chip}
-use Rattle.uart.specs.declared.Registers.{Registers}
 use Rattle.uart.specs.Causes.{causeNumber}
 use Rattle.uart.specs.Inbox.{textOfReply, received}
-use Rattle.uart.specs.Registers.{differ, settled}
+use Rattle.uart.specs.Registers.{differ}
 use Rattle.uart.specs.Chip.{sound, moved, readIf, read, transmittedIf, writeIf, write, outboxIf, outbox, lapseIf, lapsed, fillIf, filled, bufferIf, buffer}
 
 -- a cause with a number

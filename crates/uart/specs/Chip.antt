@@ -10,7 +10,6 @@ use Rattle.queue.specs.Queue.{isEmpty, oldest, queueOk}
 use Rattle.reply.specs.declared.Reply.{Reply}
 use Rattle.reply.specs.declared.Reply.the-variants.{None}
 use Rattle.control.specs.Control.{heardIn}
-use Rattle.set.specs.declared.Refusal.{Refusal}
 use Rattle.set.specs.declared.Refusal.the-variants.{Accepted, Unsound}
 use Rattle.set.specs.declared.Set.{Set}
 use Rattle.set.specs.declared.Typed.{Typed}

@@ -1,9 +1,8 @@
 -- 02, E13: "Reply text, a lapse's too, each line closed by CR and LF, waits in 256 places for the receive register; where it would run over,
 -- its last bytes are lost and overrun is set."
 use Prim.Native.Nat.{ℕ}
-use mathlib.Core.Bool.{Bool, true, false, _||_}
+use mathlib.Core.Bool.{false, _||_}
 use mathlib.Core.List.{List, [], _∷_, _++_}
-use Rattle.queue.specs.declared.Queue.{Queue}
 use Rattle.queue.specs.Queue.{emptyQueue, pushed, popped}
 use Rattle.reply.specs.declared.Code.{Code}
 use Rattle.reply.specs.declared.Reply.{Reply}

@@ -4,7 +4,7 @@ use Prim.Native.Nat.{ℕ, zero, suc, _≤_}
 use native.Mathlib.Omega.{arith}
 use mathlib.Core.Path.{_≡_, refl, sym, ap, subst, _∙_}
 use mathlib.Core.Bool.{Bool, true, false}
-use mathlib.Core.List.{List, [], _∷_}
+use mathlib.Core.List.{List}
 use contract.Lifetimes.{Lfts}
 use denote.Ref.{RefT, now}
 use lib.Dec.{leb, eqb}
@@ -13,13 +13,13 @@ use lib.ListN.{length}
 use borrow.Author.Tests.{leb-false, eqb-true, eqb-false}
 use Rattle.reply.specs.declared.Reply.{Reply}
 use Rattle.reply.specs.declared.Reply.the-variants.{None}
-use Rattle.at.specs.At.{typedByte, sent, lapse}
+use Rattle.at.specs.At.{typedByte, sent}
 use Rattle.ascii.specs.Front.{put}
 use Rattle.control.specs.Control.{heard}
 use Rattle.soundness.specs.Sound.{rateOk}
 use Rattle.set.specs.declared.Set.{Set}
 use Rattle.set.specs.declared.Typed.{Typed}
-use Rattle.set.specs.Refusals.{refusalNumber, accepted, either}
+use Rattle.set.specs.Refusals.{accepted, either}
 use Rattle.set.specs.Set as set
 use Rattle.set.specs.Book as book
 use Rattle.set.specs.Book.{Book, typing, time, entryOf, declinedWith, fedBy, lapsedBy, entered}
@@ -36,11 +36,10 @@ use Rattle.uart.specs.declared.Written.{Written}
 use Rattle.uart.specs.declared.Lapse.{Lapse}
 use Rattle.uart.specs.declared.Fill.{Fill}
 use Rattle.uart.specs.Causes.{causeNumber}
-use Rattle.uart.specs.Inbox.{textOfReply}
 use Rattle.uart.specs.Chip as uart
 use Rattle.uart.proofs.Waiting.{few-wait}
 use Rattle.uart.proofs.Unchanged.{read-declined, write-declined, lapse-declined, fill-declined}
-use Rattle.wired.specs.Table.{Table, toRead, toWrite, toWait, toFill, callsOf, unlessAbove7, writeNumber, declinedBy, valueIn, sentBy, outboxBy, joinedBy, movedOn, typedOn, afterRead, writtenTo, next}
+use Rattle.wired.specs.Table.{Table, callsOf, valueIn, joinedBy, movedOn, typedOn, afterRead, writtenTo, next}
 use Rattle.wired.specs.Trace.{Event, readEvent, writeEvent, waitEvent, fillEvent, Did, reading, writing, waiting, filling, inside, Unchanged}
 use Rattle.wired.specs.Wired.{Answered}
 use Rattle.wired.proofs.Stands.{stands, beyond, sound-stands, value-stands, read-stands, read-keeps, moved-stands}

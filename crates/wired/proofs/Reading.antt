@@ -1,7 +1,7 @@
 -- 02, E13 read off the contract of `start`, each part at its full strength, so that a contract or a statement that says less is refused here: of every call
 -- in the middle of a list what it answers and leaves, and of the whole list what the set inside did and played. Assumes nothing.
 use Prim.Native.Nat.{ℕ}
-use mathlib.Core.Path.{_≡_, refl, ap, subst}
+use mathlib.Core.Path.{_≡_, refl, ap}
 use mathlib.Core.Bool.{Bool, true}
 use mathlib.Core.List.{List, [], _∷_, _++_, map}
 use Rattle.keys.specs.declared.Lit.the-variants as lit
@@ -13,7 +13,7 @@ use Rattle.claim.specs.Trace as claim
 use Rattle.claim.specs.Claim.{notCalled, Reports, callOf, bookAfter, sinceAfter, Played}
 use Rattle.claim.specs.Claim as calls
 use Rattle.claim.specs.Sent.{Sends}
-use Rattle.claim.specs.Strings.{Step, single, lastSet, allSingles, allCalls, AllStepsAnswered, Holds}
+use Rattle.claim.specs.Strings.{single, lastSet, allSingles, allCalls, AllStepsAnswered, Holds}
 use Rattle.uart.specs.declared.Start.{Start}
 use Rattle.uart.specs.declared.Chip.{Chip}
 use Rattle.uart.specs.declared.Lapse.{Lapse}

@@ -11,14 +11,14 @@ use Rattle.set.specs.declared.Set.{Set}
 use Rattle.set.specs.Refusals.{causeOfCreation, accepted, ifAccepted}
 use Rattle.set.specs.Sound.{sound}
 use Rattle.set.specs.Set as set
-use Rattle.set.specs.Book.{Book, blank}
+use Rattle.set.specs.Book.{blank}
 use Rattle.set.specs.Event as inner
 use Rattle.claim.specs.Trace as claim
-use Rattle.claim.specs.Claim.{SinceDial, notCalled, bookAfter, sinceAfter, AllAnswered}
+use Rattle.claim.specs.Claim.{SinceDial, notCalled, AllAnswered}
 use Rattle.claim.specs.Expand as expand
 use Rattle.claim.specs.Strings.{Claim, History, single, called}
 use Rattle.claim.proofs.Claim.{ListInvariant, fresh-invariant}
-use Rattle.claim.proofs.Expand.{Counts, Expanded, expanded}
+use Rattle.claim.proofs.Expand.{Counts, expanded}
 use Rattle.claim.proofs.Strings as claimed
 use Rattle.uart.specs.declared.Chip.{Chip}
 use Rattle.uart.specs.Chip as uart

@@ -1,5 +1,5 @@
 -- `Sender::play` meets its contract: the invariant is `Playing`, and a turn takes two of its steps. Assumes nothing.
-use Prim.Native.Nat.{_-_, _≤_, _<_}
+use Prim.Native.Nat.{_-_, _≤_}
 use native.Mathlib.Omega.{arith}
 use lib.ListN.{length, length-set}
 use borrow.Author.Needs.{needs}

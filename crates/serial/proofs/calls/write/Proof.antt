@@ -1,6 +1,5 @@
 -- `calls::write` meets its contract: the front of an outbox of 16 is lent, or all of it. Assumes nothing.
 use native.Mathlib.Nat.{sub-zero}
-use native.Mathlib.Omega.{arith}
 use lib.Seq.{take-all}
 use borrow.Author.Needs.{needs}
 use Rattle.serial.proofs.calls.write.Statement.{statement}
