@@ -4,7 +4,8 @@
  * A set takes typed bytes, lapses of time and sample buffers. It gives replies, the bytes to send, the
  * sound of a dialled call sample by sample, and the stage of that call. It lies in memory that you
  * lend, one gibbonplate_set, which only the functions below write. They allocate nothing, hold nothing
- * between calls, print nothing, wait for nothing and call nobody, so an audio callback may call them.
+ * between calls, print nothing, wait for nothing and call nobody, so an audio callback may call them;
+ * but ask the plan's three before the call, since they take as long as many buffers.
  *
  *     gibbonplate_set set;
  *     gibbonplate_new(&set, 48000);              // then, in the order in which things happen:
@@ -54,17 +55,17 @@ typedef struct gibbonplate_set {
     uint8_t queue[256];
 } gibbonplate_set;
 
-/* Why a call was declined. Numbers 4 and 5 are given no more, and 11 is no call's here. */
+/* Why a call was declined. Numbers 4 and 5 are given no more, and 11 and 13 to 15 are no call's here. */
 enum gibbonplate_refusal {
     GIBBONPLATE_ACCEPTED = 0,
-    GIBBONPLATE_BAD_RATE = 1,      /* creation, a plan: a rate outside 8,000 to 192,000 */
+    GIBBONPLATE_BAD_RATE = 1,      /* creation, a plan, the earpiece: a rate outside 8,000 to 192,000 */
     GIBBONPLATE_SHORT_OUTBOX = 2,  /* a typed byte: an outbox under 4 bytes */
-    GIBBONPLATE_LONG_FILL = 3,     /* a fill of over 65,536 samples */
+    GIBBONPLATE_LONG_FILL = 3,     /* a fill, the earpiece: over 65,536 samples */
     GIBBONPLATE_UNSOUND = 6,       /* the memory holds no set that calls can reach */
     GIBBONPLATE_BAD_POSITION = 7,  /* a cue: nothing is being dialled, or it has no such digit */
     GIBBONPLATE_LONG_STRING = 8,   /* a string of over 256 bytes */
     GIBBONPLATE_STRING_ROOM = 9,   /* a string: an outbox under 4 bytes a byte, or a code buffer under 3 */
-    GIBBONPLATE_LONG_NUMBER = 10,  /* a plan: over 76 bytes, keys or not */
+    GIBBONPLATE_LONG_NUMBER = 10,  /* a plan, the earpiece: over 76 bytes, keys or not */
     GIBBONPLATE_QUEUE_FULL = 12    /* a queued byte: 256 are waiting */
 };
 

@@ -246,20 +246,22 @@ static void in_time(show *s)
         jack_acquire_real_time_scheduling(pthread_self(), jack_client_real_time_priority(s->client) - 1);
 }
 
-static void connect_out(desk *d, show *s)
+static bool connect_out(desk *d, show *s)
 {
     const char **ports;
     int i;
 
     if (d->to) {
-        if (jack_connect(s->client, jack_port_name(s->port), d->to) != 0)
-            fprintf(stderr, "show: it cannot be connected to the port \"%s\"\n", d->to);
-        return;
+        if (jack_connect(s->client, jack_port_name(s->port), d->to) == 0)
+            return true;
+        fprintf(stderr, "show: it cannot be connected to the port \"%s\"\n", d->to);
+        return false;
     }
     ports = jack_get_ports(s->client, NULL, JACK_DEFAULT_AUDIO_TYPE, JackPortIsPhysical | JackPortIsInput);
     for (i = 0; ports && ports[i] && i < 2; i++)
         jack_connect(s->client, jack_port_name(s->port), ports[i]);
     jack_free(ports);
+    return true;
 }
 
 static FILE *opened(const char *path, const char *how)
@@ -311,7 +313,10 @@ int main(int argc, char **argv)
         wav_header(d.take, 0, 0);
     if (!show_open(&s, d.server, d.take != NULL))
         return 1;
-    connect_out(&d, &s);
+    if (!connect_out(&d, &s)) {
+        show_close(&s);
+        return 1;
+    }
     in_time(&s);
     p.mode = 'C';
     p.key[0] = p.key[1] = GIBBONPLATE_NO_KEY;
