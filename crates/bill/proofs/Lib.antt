@@ -1,2 +1,3 @@
 -- What the functions' proofs cite, and lines that are computed.
 pub mod Examples
+pub mod Reading

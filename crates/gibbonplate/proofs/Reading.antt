@@ -119,6 +119,20 @@ module _ (longs counts : RefT (List ℕ)) (reals : RefT (List Float)) (marks lin
   pub s12-is : (κs : Lfts 7) (answer : ℕ) → s12-in.Learnt κs (longs, (counts, (reals, (marks, (line, (keys, (queue, tt))))))) answer (longs, (counts, (reals, (marks, (line, (keys, (queue, tt))))))) → answer ≡ s12Of s
   s12-is κs answer d = d
 
+  -- no call asks anything, whatever the memory holds
+  module _ (κ7 : Lfts 7) (κ8 : Lfts 8) (κ9 : Lfts 9) (κ10 : Lfts 10) (κ11 : Lfts 11) (n position : ℕ) (carrier : Bool) (bytes out codes key : RefT (List ℕ)) (samples : RefT (List Float)) (one : RefT ℕ) where
+    pub calls-ask-nothing : new-in.Asked κ7 (longs, (counts, (reals, (marks, (line, (keys, (queue, (n, tt))))))))
+        × feed-in.Asked κ10 (longs, (counts, (reals, (marks, (line, (keys, (queue, (n, (carrier, (out, (codes, (one, tt))))))))))))
+        × feed-all-in.Asked κ11 (longs, (counts, (reals, (marks, (line, (keys, (queue, (bytes, (carrier, (out, (codes, (one, tt))))))))))))
+        × advance-time-in.Asked κ8 (longs, (counts, (reals, (marks, (line, (keys, (queue, (n, (carrier, (codes, tt))))))))))
+        × force-data-mode-in.Asked κ7 (longs, (counts, (reals, (marks, (line, (keys, (queue, tt)))))))
+        × queue-byte-in.Asked κ7 (longs, (counts, (reals, (marks, (line, (keys, (queue, (n, tt))))))))
+        × process-out-in.Asked κ9 (longs, (counts, (reals, (marks, (line, (keys, (queue, (samples, (key, tt)))))))))
+        × ring-in.Asked κ8 (longs, (counts, (reals, (marks, (line, (keys, (queue, (one, tt))))))))
+        × cue-in.Asked κ9 (longs, (counts, (reals, (marks, (line, (keys, (queue, (position, (one, (key, tt))))))))))
+        × s12-in.Asked κ7 (longs, (counts, (reals, (marks, (line, (keys, (queue, tt)))))))
+    calls-ask-nothing = (tt, tt, tt, tt, tt, tt, tt, tt, tt, tt)
+
 -- 02, E6: the writer of replies is handed S12
 pub writer-is : (κs : Lfts 1) (code s12 : ℕ) (out : RefT (List ℕ)) (left : List ℕ) (n : ℕ)
     → write-reply.Learnt κs (code, (s12, (out, tt))) n (code, (s12, (at-last out left, tt)))
@@ -127,6 +141,12 @@ writer-is κs code s12 out left n d = (d .0, d .1)
 
 -- ---- 02, E4
 module _ (κs : Lfts 1) (digits : RefT (List ℕ)) (rate : ℕ) where
+  pub plan-asks-nothing : (stage : ℕ)
+      → plan-refusal.Asked κs (digits, (rate, tt))
+      × stage-samples.Asked κs (digits, (rate, (stage, tt)))
+      × total-samples.Asked κs (digits, (rate, tt))
+  plan-asks-nothing stage = (tt, tt, tt)
+
   pub refusal-is : (number : ℕ) → plan-refusal.Learnt κs (digits, (rate, tt)) number (digits, (rate, tt))
       → number ≡ planRefusalNumber (planCause (length (now digits)) rate)
   refusal-is number d = d

@@ -1,3 +1,4 @@
 pub mod Bits
 pub mod Counts
 pub mod Cases
+pub mod Reading

@@ -1,10 +1,10 @@
 -- 02, E11 and E12 read off `charge` and `charge_from`, each promise at its full strength, so that one that says less is refused here. Assumes
 -- nothing.
-use Prim.Native.Nat.{ℕ, _*_, _≤_, _<_}
+use Prim.Native.Nat.{ℕ, _+_, _*_, _≤_, _<_}
 use mathlib.Core.Path.{_≡_}
 use Rattle.tariff.specs.declared.Bill.{Bill}
 use Rattle.tariff.specs.Tariff.{unit, longestCall, billOf}
-use Rattle.tariff.specs.Hours.{weekSeconds, bought, billFrom, InsidePeak}
+use Rattle.tariff.specs.Hours.{weekSeconds, bought, billFrom}
 use Rattle.tariff.proofs.charge.Reads as charge
 use Rattle.tariff.proofs.charge_from.Reads as charge-from
 
@@ -35,5 +35,6 @@ module _ (ms start : ℕ) (bill : Bill) (d : charge-from.Learnt tt (ms, (start, 
   pub longer-from-costs-no-less : (longer : ℕ) → ms ≤ longer → longer ≤ longestCall → bill .pence ≤ billFrom longer start .pence
   longer-from-costs-no-less = d .1 .1 .0
 
-  pub inside-peak-is-plain : InsidePeak start ms → bill ≡ billOf ms
-  inside-peak-is-plain = d .1 .1 .1
+  -- from 08:00:00 to 18:00:00 of whichever of the five days
+  pub inside-peak-is-plain : (weekday : ℕ) → weekday < 5 → weekday * 86400000 + 28800000 ≤ start * 1000 → start * 1000 + ms ≤ weekday * 86400000 + 64800000 → bill ≡ billOf ms
+  inside-peak-is-plain weekday early begins ends = d .1 .1 .1 (record { weekday = weekday; isWeekday = early; begins = begins; ends = ends })
