@@ -28,6 +28,11 @@ pub past-nine : (n acc : ℕ) → 9 < n → (mark : Bool) → stepOf (Frame n ac
 unfolding frameStep
 past-nine n acc h mark = rw (ne-eqb n 0 (λ e. absurd (omega (arith, e, h))), le-ltb n 9 (omega (arith, h)), ne-eqb n 9 (λ e. absurd (omega (arith, e, h))))
 
+-- and with none
+pub none-read : (acc : ℕ) (mark : Bool) → stepOf (Frame 0 acc) mark ≡ stepOf Idle mark
+unfolding frameStep
+none-read acc mark = refl
+
 made-up : (n acc room : ℕ) → 9 < n → readOf room (Frame n acc) tenOnes ≡ readOf room Idle tenOnes
 unfolding readOf
 made-up n acc room h = rw (past-nine n acc h true)
