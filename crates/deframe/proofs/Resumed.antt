@@ -12,8 +12,7 @@ use lib.Seq.{take-append-add, take-nil}
 use Rattle.frame.specs.Frame.{frameOf, framed}
 use Rattle.deframe.specs.declared.Deframer.{Deframer}
 use Rattle.deframe.specs.declared.Deframer.the-variants.{Idle, Frame, Skipping}
-use Rattle.deframe.specs.declared.Pushed.the-variants.{More}
-use Rattle.deframe.specs.Read.{Read, frameStep, readOf}
+use Rattle.deframe.specs.Read.{Read, frameStep, stepOf, readOf}
 use Rattle.deframe.specs.Calls.{tenOnes, byOnes, AllBytes, none, more, Resumed}
 use Rattle.frame.proofs.Bits.{frame-length}
 use Rattle.deframe.proofs.Frames.{shifted-data}
@@ -24,14 +23,19 @@ pub record Quiet (p : Deframer) (room : ℕ) : Type 0 where
   pub idle : readOf room p tenOnes ≡ record { place = Idle; taken = 10; bytes = byOnes p }
   pub few : length (byOnes p) ≤ 1
 
--- with more than nine bits read a one is idle
-past-nine : (n acc : ℕ) → 9 < n → frameStep n acc true ≡ More Idle
+-- with more than nine bits read, however many, the next bit finds the reader idle
+pub past-nine : (n acc : ℕ) → 9 < n → (mark : Bool) → stepOf (Frame n acc) mark ≡ stepOf Idle mark
 unfolding frameStep
-past-nine n acc h = rw (ne-eqb n 0 (λ e. absurd (omega (arith, e, h))), le-ltb n 9 (omega (arith, h)), ne-eqb n 9 (λ e. absurd (omega (arith, e, h))))
+past-nine n acc h mark = rw (ne-eqb n 0 (λ e. absurd (omega (arith, e, h))), le-ltb n 9 (omega (arith, h)), ne-eqb n 9 (λ e. absurd (omega (arith, e, h))))
+
+-- and with none
+pub none-read : (acc : ℕ) (mark : Bool) → stepOf (Frame 0 acc) mark ≡ stepOf Idle mark
+unfolding frameStep
+none-read acc mark = refl
 
 made-up : (n acc room : ℕ) → 9 < n → readOf room (Frame n acc) tenOnes ≡ readOf room Idle tenOnes
 unfolding readOf
-made-up n acc room h = rw (past-nine n acc h)
+made-up n acc room h = rw (past-nine n acc h true)
 
 quiet : (p : Deframer) (room : ℕ) → Quiet p (suc room)
 unfolding readOf frameStep

@@ -6,7 +6,7 @@ use mathlib.Core.Bool.{Bool, cond}
 use mathlib.Core.List.{List, [], _∷_}
 use contract.Lifetimes.{Lfts}
 use denote.Ref.{RefT, now, at-last}
-use lib.Dec.{eqb}
+use lib.Dec.{eqb, leb}
 use lib.Ieee.{Float}
 use lib.IntN.{ℤ}
 use lib.ListN.{length}
@@ -14,6 +14,8 @@ use Rattle.ascii.specs.Front.{put, putLength}
 use Rattle.keys.specs.Keys.{digitsOf}
 use Rattle.reply.specs.Codes.{firstOf, secondOf}
 use Rattle.reply.specs.Texts.{textOf}
+use Rattle.at.specs.Processor.{commandMode}
+use Rattle.session.specs.Session.{stateNumber}
 use Rattle.set.specs.declared.Set.{Set}
 use Rattle.set.specs.Refusals.{refusalNumber}
 use Rattle.set.specs.Set.{s12Of, made, typed, outbox, lapsed, forced, byteQueued, fill, buffer, rung}
@@ -34,7 +36,13 @@ use Rattle.gibbonplate.proofs.gibbonplate_queue_byte_in.Reads as queue-
 use Rattle.gibbonplate.proofs.gibbonplate_process_out_in.Reads as process-out-in
 use Rattle.gibbonplate.proofs.gibbonplate_ring_in.Reads as ring-in
 use Rattle.gibbonplate.proofs.gibbonplate_cue_in.Reads as cue-in
+use Rattle.gibbonplate.proofs.gibbonplate_mode_in.Reads as mode-in
+use Rattle.gibbonplate.proofs.gibbonplate_state_in.Reads as state-in
+use Rattle.gibbonplate.proofs.gibbonplate_stage_in.Reads as stage-in
+use Rattle.gibbonplate.proofs.gibbonplate_m_in.Reads as m-in
 use Rattle.gibbonplate.proofs.gibbonplate_s12_in.Reads as s12-in
+use Rattle.gibbonplate.proofs.gibbonplate_rate_in.Reads as rate-in
+use Rattle.gibbonplate.proofs.gibbonplate_digits_in.Reads as digits-in
 use Rattle.gibbonplate.proofs.gibbonplate_write_reply.Reads as write-reply
 use Rattle.gibbonplate.proofs.gibbonplate_plan_refusal.Reads as plan-refusal
 use Rattle.gibbonplate.proofs.gibbonplate_stage_samples.Reads as stage-samples
@@ -116,10 +124,31 @@ module _ (longs counts : RefT (List ℕ)) (reals : RefT (List Float)) (marks lin
       → (number ≡ cueRefusalNumber (cued s position .refusal)) × (value ≡ cued s position .sample) × (lights ≡ keyNumbers (cued s position .key))
   cue-call κs position sample key value lights number d = (d .refusal, d .sample, d .key)
 
+  -- the plain readers
+  pub mode-is : (κs : Lfts 7) (answer : ℕ) → mode-in.Learnt κs (longs, (counts, (reals, (marks, (line, (keys, (queue, tt))))))) answer (longs, (counts, (reals, (marks, (line, (keys, (queue, tt))))))) → answer ≡ cond (commandMode (s .processor)) 67 68
+  mode-is κs answer d = d
+
+  pub state-is : (κs : Lfts 7) (answer : ℕ) → state-in.Learnt κs (longs, (counts, (reals, (marks, (line, (keys, (queue, tt))))))) answer (longs, (counts, (reals, (marks, (line, (keys, (queue, tt))))))) → answer ≡ stateNumber (s .session .state)
+  state-is κs answer d = d
+
+  pub stage-is : (κs : Lfts 7) (answer : ℕ) → stage-in.Learnt κs (longs, (counts, (reals, (marks, (line, (keys, (queue, tt))))))) answer (longs, (counts, (reals, (marks, (line, (keys, (queue, tt))))))) → answer ≡ s .session .shown
+  stage-is κs answer d = d
+
+  pub m-is : (κs : Lfts 7) (answer : ℕ) → m-in.Learnt κs (longs, (counts, (reals, (marks, (line, (keys, (queue, tt))))))) answer (longs, (counts, (reals, (marks, (line, (keys, (queue, tt))))))) → answer ≡ s .session .m
+  m-is κs answer d = d
+
   pub s12-is : (κs : Lfts 7) (answer : ℕ) → s12-in.Learnt κs (longs, (counts, (reals, (marks, (line, (keys, (queue, tt))))))) answer (longs, (counts, (reals, (marks, (line, (keys, (queue, tt))))))) → answer ≡ s12Of s
   s12-is κs answer d = d
 
-  -- no call asks anything, whatever the memory holds
+  pub rate-is : (κs : Lfts 7) (answer : ℕ) → rate-in.Learnt κs (longs, (counts, (reals, (marks, (line, (keys, (queue, tt))))))) answer (longs, (counts, (reals, (marks, (line, (keys, (queue, tt))))))) → answer ≡ s .rate
+  rate-is κs answer d = d
+
+  pub digits-are : (κs : Lfts 8) (digits : RefT (List ℕ)) (left : List ℕ) (answer : ℕ)
+      → digits-in.Learnt κs (longs, (counts, (reals, (marks, (line, (keys, (queue, (digits, tt)))))))) answer (longs, (counts, (reals, (marks, (line, (keys, (queue, (at-last digits left, tt))))))))
+      → (answer ≡ cond (leb (s .session .digits .len) 76) (s .session .digits .len) 0) × (left ≡ s .session .digits .keys)
+  digits-are κs digits left answer d = (d .0, d .1)
+
+  -- no call and no reader asks anything, whatever the memory holds
   module _ (κ7 : Lfts 7) (κ8 : Lfts 8) (κ9 : Lfts 9) (κ10 : Lfts 10) (κ11 : Lfts 11) (n position : ℕ) (carrier : Bool) (bytes out codes key : RefT (List ℕ)) (samples : RefT (List Float)) (one : RefT ℕ) where
     pub calls-ask-nothing : new-in.Asked κ7 (longs, (counts, (reals, (marks, (line, (keys, (queue, (n, tt))))))))
         × feed-in.Asked κ10 (longs, (counts, (reals, (marks, (line, (keys, (queue, (n, (carrier, (out, (codes, (one, tt))))))))))))
@@ -130,8 +159,16 @@ module _ (longs counts : RefT (List ℕ)) (reals : RefT (List Float)) (marks lin
         × process-out-in.Asked κ9 (longs, (counts, (reals, (marks, (line, (keys, (queue, (samples, (key, tt)))))))))
         × ring-in.Asked κ8 (longs, (counts, (reals, (marks, (line, (keys, (queue, (one, tt))))))))
         × cue-in.Asked κ9 (longs, (counts, (reals, (marks, (line, (keys, (queue, (position, (one, (key, tt))))))))))
+    calls-ask-nothing = (tt, tt, tt, tt, tt, tt, tt, tt, tt)
+
+    pub readers-ask-nothing : mode-in.Asked κ7 (longs, (counts, (reals, (marks, (line, (keys, (queue, tt)))))))
+        × state-in.Asked κ7 (longs, (counts, (reals, (marks, (line, (keys, (queue, tt)))))))
+        × stage-in.Asked κ7 (longs, (counts, (reals, (marks, (line, (keys, (queue, tt)))))))
+        × m-in.Asked κ7 (longs, (counts, (reals, (marks, (line, (keys, (queue, tt)))))))
         × s12-in.Asked κ7 (longs, (counts, (reals, (marks, (line, (keys, (queue, tt)))))))
-    calls-ask-nothing = (tt, tt, tt, tt, tt, tt, tt, tt, tt, tt)
+        × rate-in.Asked κ7 (longs, (counts, (reals, (marks, (line, (keys, (queue, tt)))))))
+        × digits-in.Asked κ8 (longs, (counts, (reals, (marks, (line, (keys, (queue, (out, tt))))))))
+    readers-ask-nothing = (tt, tt, tt, tt, tt, tt, tt)
 
 -- 02, E6: the writer of replies is handed S12
 pub writer-is : (κs : Lfts 1) (code s12 : ℕ) (out : RefT (List ℕ)) (left : List ℕ) (n : ℕ)

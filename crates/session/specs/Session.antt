@@ -74,7 +74,7 @@ showing s shown b next =
       stage = next;
     }
 
--- the session after a fill of b samples at the rate r: in Idle or Answering m is unchanged; in Connected 01 declines the fill
+-- the session after a fill of b samples at the rate r: in Idle or Answering m is unchanged; in Connected the set plays its sender, and no fill comes here
 abbrev pub filledIn : SessionState → Session → ℕ → ℕ → Session
 filledIn Dialling s b r = showing s (shownAfter b (s .stage) (digitsHeld s) r) b (after b (s .stage) (digitsHeld s) r)
 filledIn Idle s b r = s

@@ -199,7 +199,7 @@ impl Session {
         Filled { session, key }
     }
 
-    // A fill. In Connected, which 01 declines before it comes here, it writes zeros.
+    // A fill. In Connected, where the set plays its sender (02, E10) and none comes here, it writes zeros.
     pub fn process_out(self, rate: u32, out: &mut [f32]) -> Filled
         ensures { λ r. ⌜ r .session ≡ filled self (length (now (out .entry))) rate ⌝ }
         ensures { λ r. ⌜ r .key ≡ keyAfter self (length (now (out .entry))) rate ⌝ }

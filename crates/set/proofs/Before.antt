@@ -5,8 +5,12 @@ use mathlib.Core.Path.{_≡_, refl}
 use mathlib.Core.List.{List}
 use mathlib.Core.Bool.{Bool, true, false}
 use mathlib.Core.Logic.{_⊎_, inl}
+use lib.ListN.{length}
+use Rattle.ascii.specs.Front.{put}
 use Rattle.at.specs.Processor.{freshS12}
-use Rattle.at.specs.Before.{endsS12Line}
+use Rattle.at.specs.declared.Fed.{Fed}
+use Rattle.at.specs.declared.Outcome.{Outcome}
+use Rattle.at.specs.Before.{typedByteBefore, sentBefore, lapseBefore, endsS12Line}
 use Rattle.at.proofs.Before as processor
 use Rattle.control.specs.Control.{heard}
 use Rattle.set.specs.declared.Set.{Set}
@@ -26,6 +30,28 @@ module _ (s : Set) (e : s12Of s ≡ freshS12) where
   pub lapsed-as-before : (ns : ℕ) (carrier : Bool) → lapsed s ns carrier ≡ lapsedBefore s ns carrier
   unfolding lapsed lapsedBefore
   lapsed-as-before ns carrier = rw (processor.lapse-as-before (s .processor) e ns (heard (s .session) carrier))
+
+-- ---- an accepted call of before is 01's processor's, which reads no S12
+module _ (s : Set) where
+  module _ (byte : ℕ) (carrier : Bool) (n : ℕ) (taken : accepted (typingCause s n) ≡ true) where
+    abbrev fed : Fed
+    fed = typedByteBefore (s .processor) byte (heard (s .session) carrier) n
+
+    pub typed-is-01s : (typedBefore s byte carrier n .set .processor ≡ fed .processor) × (typedBefore s byte carrier n .reply ≡ fed .reply) × (typedBefore s byte carrier n .sent ≡ fed .sent)
+    unfolding typedBefore
+    typed-is-01s = (rw taken, rw taken, rw taken)
+
+  pub outbox-is-01s : (byte : ℕ) (was : List ℕ) → accepted (typingCause s (length was)) ≡ true → outboxBefore s byte was ≡ put (sentBefore (s .processor) byte) was
+  unfolding outboxBefore
+  outbox-is-01s byte was taken = rw taken
+
+  module _ (ns : ℕ) (carrier : Bool) (taken : accepted (lapseCause s) ≡ true) where
+    abbrev after : Outcome
+    after = lapseBefore (s .processor) ns (heard (s .session) carrier)
+
+    pub lapsed-is-01s : (lapsedBefore s ns carrier .set .processor ≡ after .processor) × (lapsedBefore s ns carrier .reply ≡ after .reply)
+    unfolding lapsedBefore
+    lapsed-is-01s = (rw taken, rw taken)
 
 -- ---- only an S12 line makes it another
 module _ (s : Set) where

@@ -10,3 +10,4 @@ pub mod Follows
 pub mod Steps
 pub mod Cases
 pub mod Before
+pub mod Lit

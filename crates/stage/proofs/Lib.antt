@@ -1,0 +1,2 @@
+-- Laws on what is shown.
+pub mod Lit
