@@ -1,4 +1,6 @@
 // Fixed texts as bytes, a writer of them, and a byte in upper case.
+#![tactic(auto)]
+
 ghost use Rattle.std.specs.Prelude.{◌≡◌, length};
 ghost use Rattle.ascii.specs.Front.{put, put_length};
 ghost use Rattle.ascii.specs.Upper.{upper};

@@ -1,6 +1,8 @@
 // The AT command interface, a port of at.rs: command lines, data mode's escape, the carrier.
 // The processor goes in by value and comes back in the answer. It holds no session: what the call
 // control has to do is part of the answer, and the caller does it.
+#![tactic(auto)]
+
 ghost use Rattle.std.specs.Prelude.{◌≡◌, ◌++◌, ◌+◌, ◌<◌, length, drop};
 ghost use Rattle.ascii.specs.Front.{put};
 ghost use Rattle.at.specs.Processor.{fresh, sound, online, unseen, added};

@@ -1,5 +1,7 @@
 // What the benchmark times, for tests/bench to link. No export holds a set between two calls, so
 // each makes a set, dials, plays up to a sample, and then does one thing many times over.
+#![tactic(auto)]
+
 ghost use Rattle.std.specs.Prelude.{◌<◌, ◌≤◌};
 
 use deframe::Deframer;

@@ -1,5 +1,7 @@
 // What calls would have cost: reads lines of milliseconds, with or without a start, and prints for each
 // the refusal, the units and the pence.
+#![tactic(auto)]
+
 ghost use Rattle.std.specs.Prelude.{◌≡◌, false};
 
 use libc::STDERR_FILENO;

@@ -1,6 +1,8 @@
 // Makes a call: types the dial line, fills buffers of uneven lengths until the line is up, writes the
 // samples up to T to a WAV file, and prints when each stage and each digit came. With a text it goes on
 // until that was sent, and writes all samples.
+#![tactic(auto)]
+
 mod file;
 mod play;
 mod stages;

@@ -2,6 +2,8 @@
 // before the call, the lent oscillator, and every call on sets that are not sound; the cue, strings, and
 // what is sent.
 // Buffers are dots, or samples of 1.23, before each call, and are printed whole after it.
+#![tactic(auto)]
+
 mod lent;
 mod plans;
 mod sets;

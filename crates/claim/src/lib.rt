@@ -1,4 +1,6 @@
 // Demand 3: the claim about every list of calls, as a promise about the fresh set that is handed out.
+#![tactic(auto)]
+
 ghost use Rattle.std.specs.Prelude.{◌≡◌};
 ghost use Rattle.set.specs.Set.{made};
 ghost use Rattle.claim.specs.Strings.{Claim};

@@ -1,5 +1,7 @@
 // The command line: at.rs's `cmd_buf` as an array with a length, the line uppercased, and the
 // command that it is.
+#![tactic(auto)]
+
 ghost use Rattle.std.specs.Prelude.{◌≡◌, cond, ◌≤◌, ◌<◌, length, drop};
 ghost use Rattle.command.specs.Line.{empty_line, typed, sound_line, pushed, uppercased};
 ghost use Rattle.command.specs.Command as commands;

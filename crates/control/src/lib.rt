@@ -1,4 +1,6 @@
 // The call control: what the AT processor asks of the session, and what the session lets it hear.
+#![tactic(auto)]
+
 ghost use Rattle.std.specs.Prelude.{◌≡◌, drop};
 ghost use Rattle.command.specs.Line as command_line;
 ghost use Rattle.session.specs.Session.{dialling};

@@ -1,4 +1,6 @@
 // The cue: for a digit of the call, the first sample of that digit's tone, so that a light can be set to it, and its key.
+#![tactic(auto)]
+
 ghost use Rattle.std.specs.Prelude.{◌≡◌, true, ◌+◌, ◌<◌, ◌≤◌};
 ghost use Rattle.math.specs.Float.{one};
 ghost use Rattle.schedule.specs.Time.{samples_in, min_rate, max_rate};

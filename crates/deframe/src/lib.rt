@@ -1,4 +1,6 @@
 // Bits back into bytes: one frame's inverse, and a reader that goes over a list of bits and keeps its place. A mark, 01's bit 1, is `true`.
+#![tactic(auto)]
+
 ghost use Rattle.std.specs.Prelude.{◌≡◌, ℕ, ◌≤◌, ◌<◌, ltb, length, set};
 ghost use Rattle.frame.specs.Frame.{frame_of};
 ghost use Rattle.deframe.specs.Unframe.{weight_of, data_of, unframe_of, unframed_number};

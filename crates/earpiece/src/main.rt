@@ -1,4 +1,6 @@
 // Writes a call's earpiece, the T samples of its keys, dial tone and ringback, to a WAV file of 16-bit samples.
+#![tactic(auto)]
+
 mod wav;
 
 ghost use Rattle.std.specs.Prelude.{◌≤◌};

@@ -1,5 +1,7 @@
 // Which icon a set shows, and which sample is a stage's first, found from that. A set is a value, so a fill
 // that went past a stage's beginning can be made again, shorter.
+#![tactic(auto)]
+
 ghost use Rattle.std.specs.Prelude.{◌≡◌, ◌≤◌, leb, length};
 ghost use Rattle.set.specs.Set.{buffer};
 ghost use Rattle.edges.specs.Icon.{icon_of, shown, icon_after, IsFirst, FirstIs};

@@ -1,4 +1,6 @@
 // Asynchronous framing, and the payloads that the stages send. A mark, 01's bit 1, is `true`.
+#![tactic(auto)]
+
 ghost use Rattle.std.specs.Prelude.{◌≡◌, ltb, length};
 ghost use Rattle.frame.specs.Frame.{frame_of, framed, bit_at};
 

@@ -2,6 +2,8 @@
 // bits on V.21's. A fresh one is already at its first bit's tone, so that a payload's bits take just
 // their symbol periods. The bits themselves are no part of a channel: it holds how many are done, and
 // its caller names the payload.
+#![tactic(auto)]
+
 ghost use Rattle.std.specs.Prelude.{◌≡◌, drop};
 ghost use Rattle.frame.specs.Frame.{framed};
 ghost use Rattle.fsk.specs.Modulator.{tone_of, fresh_modulator, keyed, modulator_sample, bit_ends, next_modulator};

@@ -1,5 +1,7 @@
 // The set for C programs, under the names of include/gibbonplate.h. A set lies in memory that the caller lends: seven arrays, which the
 // header has in one struct. Each function here is the set's call between a load and a store, and a declined call leaves the memory as it was.
+#![tactic(auto)]
+
 ghost use Rattle.std.specs.Prelude.{◌≡◌, ◌≤◌, length};
 ghost use Rattle.ascii.specs.Front.{put, put_length};
 ghost use Rattle.keys.specs.Keys.{digits_of};

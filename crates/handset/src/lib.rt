@@ -1,5 +1,7 @@
 // The earpiece: an overture's keys, dial tone and ringback in 16-bit whole samples, from any sample on. Its edges are those of the float
 // overture; no float decides a sample between them.
+#![tactic(auto)]
+
 ghost use Rattle.std.specs.Prelude.{◌≡◌, ◌≤◌, length};
 ghost use Rattle.schedule.specs.Time.{min_rate, max_rate};
 ghost use Rattle.schedule.specs.Length.{max_digits};

@@ -1,4 +1,6 @@
 // The keypad of Q.23, and the digits of a dial line.
+#![tactic(auto)]
+
 ghost use Rattle.std.specs.Prelude.{◌≡◌};
 ghost use Rattle.keys.specs.Keys.{key_place, is_key, tones_of, NamesKey, all_keys, dialled_of};
 

@@ -1,4 +1,6 @@
 // Bits from standard input, as the characters 0 and 1, back into bytes on standard output.
+#![tactic(auto)]
+
 ghost use Rattle.std.specs.Prelude.{◌≡◌, false};
 
 use deframe::Deframer;

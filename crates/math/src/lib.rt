@@ -1,4 +1,6 @@
 // The numbers of 01, "Floats": S and E for libm's `sin` and `exp`, `floor` and `round` worked out from bits, and `as f32`.
+#![tactic(auto)]
+
 ghost use Rattle.std.specs.Prelude.{◌≡◌, cond, ◌&&◌, ◌<◌, ◌≤◌, ◌^◌, ◌/◌, ◌%◌, leb};
 ghost use Rattle.std.specs.Float.Ieee.{le, lt};
 ghost use Rattle.std.specs.Float.Ieee.Nearest.{closest};

@@ -1,4 +1,6 @@
 // A numerically controlled oscillator. Its phase runs on when the frequency changes, so a change makes no click.
+#![tactic(auto)]
+
 ghost use Rattle.std.specs.Prelude.{◌≡◌};
 ghost use Rattle.nco.specs.Nco.{advanced, fresh_nco, retuned, sample_of, stepped_nco, phase_in_range};
 

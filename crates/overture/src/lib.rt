@@ -1,6 +1,8 @@
 // The overture over a lent buffer. Each kind of stage has a writer, which plays a run of samples
 // over which the stage's clock tells the same; the loops that play hold their oscillators in locals.
 // Where a stage ends, the rest of the buffer is lent on to the next stage's writer.
+#![tactic(auto)]
+
 ghost use Rattle.std.specs.Prelude.{◌≡◌, true, ◌++◌, ◌≤◌, ◌<◌, length, drop};
 ghost use Rattle.schedule.specs.Length.{cj_bits};
 ghost use Rattle.stage.specs.declared.StageState.TheVariants.{OffHook, DialTone, Ringback, Ansam, Cj, Connected};

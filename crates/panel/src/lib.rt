@@ -1,5 +1,7 @@
 // Runs the lines of `wall` and `tap`: each call on the set that the one before returned, and what
 // the set then shows as a line of text.
+#![tactic(auto)]
+
 ghost use Rattle.std.specs.Prelude.{◌≡◌, false, length, take};
 ghost use Rattle.deframe.specs.Read.{answer_of};
 ghost use Rattle.text.specs.Text.{page_of, add_of};

@@ -1,5 +1,7 @@
 // The length of a call before the call: the samples of its stages and T, for digit bytes and a rate.
 // Clocks are counted; no sample is made, so there is no oscillator in here.
+#![tactic(auto)]
+
 ghost use Rattle.std.specs.Prelude.{◌≡◌, ℕ, ◌+◌, ◌≤◌, ◌<◌, length};
 ghost use Rattle.keys.specs.Keys.{digits_of};
 ghost use Rattle.schedule.specs.Time.{min_rate, max_rate};

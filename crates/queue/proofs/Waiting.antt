@@ -1,6 +1,6 @@
 -- The queue's calls, told of the bytes that wait in it: a push adds the newest at the end, a pop takes the oldest from the front, and the
 -- queue is empty exactly when none waits. Of queues with 256 places, as all that code holds are. Assumes nothing.
-use Prim.Native.Nat.{ℕ, zero, suc, ◌+◌, ◌-◌, ◌<◌, ◌≤◌}
+use Prim.Native.Nat.{ℕ, zero, suc, ◌-◌, ◌<◌, ◌≤◌}
 use native.Mathlib.Numerals.{add-one}
 use native.Mathlib.Omega.{arith}
 use mathlib.Core.Path.{◌≡◌, refl, sym, ap, ◌∙◌}

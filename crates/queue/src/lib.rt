@@ -1,5 +1,7 @@
 // Bytes that wait, oldest first, up to 256 of them: an array with a length. A byte that leaves lets
 // the others move up, so that two queues in which the same bytes wait are made alike.
+#![tactic(auto)]
+
 ghost use Rattle.std.specs.Prelude.{◌≡◌, ◌++◌, ◌≤◌, drop};
 ghost use Rattle.queue.specs.Queue.{waiting, empty_queue, is_full, is_empty, pushed, taken_if, oldest, popped, queue_ok};
 

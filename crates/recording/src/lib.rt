@@ -1,6 +1,8 @@
 // What the programs that write a call to a WAV file share: their words, and the file. A regular one, or one that is not there yet, is
 // written as FILE.part and then renamed, so that what was there before is whole until the new one is. A link, a pipe and a device are
 // written where they are.
+#![tactic(auto)]
+
 ghost use Rattle.libc.specs.Io.{Ended};
 
 pub mod words;

@@ -1,5 +1,7 @@
 // The result codes and their texts. at.rs answers with strings; here a reply is codes, and a
 // writer puts a code's text into a buffer.
+#![tactic(auto)]
+
 ghost use Rattle.std.specs.Prelude.{◌≡◌, length};
 ghost use Rattle.reply.specs.Codes.{number_of, first_of, second_of};
 ghost use Rattle.ascii.specs.Front.{put, put_length};

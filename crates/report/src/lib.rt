@@ -1,4 +1,6 @@
 // The line that `wall` prints for a call.
+#![tactic(auto)]
+
 ghost use Rattle.std.specs.Prelude.{◌≡◌, ◌≤◌, length, take};
 ghost use Rattle.ascii.specs.Ascii.{ascii};
 ghost use Rattle.text.specs.Text.{page_of, add_of};

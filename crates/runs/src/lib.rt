@@ -1,5 +1,7 @@
 // Runs: samples in a row over which a clock of the schedule tells the same, so that a writer asks
 // it once for all of them.
+#![tactic(auto)]
+
 ghost use Rattle.std.specs.Prelude.{◌≡◌, ◌&&◌, ℕ, suc, ◌+◌, ◌*◌, ◌≤◌, ◌<◌, leb};
 ghost use Rattle.schedule.specs.Time.{min_rate, max_rate};
 ghost use Rattle.runs.specs.Runs.{counted, Least, Before, OneSign, OneGate, OneKey, same_reversal, same_part, same_gate, same_of, Run};

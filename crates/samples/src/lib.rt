@@ -1,4 +1,6 @@
 // Samples as bytes, the low byte first: written out, hashed, and as a WAV file.
+#![tactic(auto)]
+
 pub mod fnv;
 pub mod wav;
 

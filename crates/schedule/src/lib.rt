@@ -1,5 +1,7 @@
 // The clocks of an overture: a stage's seconds and its end in samples, and what digit, ring, sign
 // or bit a time belongs to. There is no oscillator in here.
+#![tactic(auto)]
+
 ghost use Rattle.std.specs.Prelude.{◌≡◌, ◌≤◌};
 ghost use Rattle.schedule.specs.Time.{min_rate, max_rate, time_at, samples_in, saturating_inc};
 ghost use Rattle.schedule.specs.Dialling.{digit_at, in_tone};

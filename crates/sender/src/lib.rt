@@ -1,6 +1,8 @@
 // The originate sender of a line that is up, with the bytes that wait for it. Bits go out on Bell 103's
 // low channel, each for one symbol; a byte's frame begins at the first edge that is free for it, and
 // outside frames the line is at mark.
+#![tactic(auto)]
+
 ghost use Rattle.std.specs.Prelude.{◌≡◌, length};
 ghost use Rattle.sender.specs.Sender.{unfinished, frame_bit, fresh_sender, fresh_sending, tuned, chosen, ready, ticked, queued, emptied, raised};
 ghost use Rattle.sender.specs.Wave.{after, samples, PlayedIs};

@@ -1,5 +1,7 @@
 // The set behind a 16450, driven by lines: reads R, I, O, W and F, and prints for each the refusal, the
 // value read, what the set then shows, and the bytes sent.
+#![tactic(auto)]
+
 ghost use Rattle.std.specs.Prelude.{◌≡◌, false, length};
 ghost use Rattle.text.specs.Text.{page_of};
 ghost use Rattle.serial.specs.Answers.{chip_by, page_by};

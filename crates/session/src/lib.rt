@@ -1,4 +1,6 @@
 // One end of a call: where it is in the call, what was dialled, and the overture while it plays.
+#![tactic(auto)]
+
 ghost use Rattle.std.specs.Prelude.{◌≡◌, ◌≤◌, length, take};
 ghost use Rattle.schedule.specs.Time.{min_rate, max_rate};
 ghost use Rattle.schedule.specs.Length.{total};

@@ -1,6 +1,8 @@
 // The calling set: the rate, the AT processor, the session, and the sender with the bytes that wait
 // for it, in one value. Every call takes the set that the one before returned, answers always, and a
 // call that is declined changes nothing.
+#![tactic(auto)]
+
 ghost use Rattle.std.specs.Prelude.{◌≡◌, ◌*◌, ◌≤◌, true, length};
 ghost use Rattle.ascii.specs.Front.{put};
 ghost use Rattle.at.specs.At.{sent};

@@ -1,5 +1,7 @@
 // Whether a stage's state is sound, as 01 lists it. Every call on a set asks, so no length is
 // looked for by counting: whether Dialling goes on is told by the digit at n alone.
+#![tactic(auto)]
+
 ghost use Rattle.std.specs.Prelude.{◌≡◌, true, ◌≤◌, ltb};
 ghost use Rattle.schedule.specs.Time.{samples_in};
 ghost use Rattle.schedule.specs.Symbols.{in_symbol};

@@ -1,5 +1,7 @@
 // The stages of an overture: a stage's state is a choice whose cases carry their oscillators.
 // The samples that follow a state are defined in specs/Next; the writers of `overture` make them.
+#![tactic(auto)]
+
 ghost use Rattle.std.specs.Prelude.{◌≡◌};
 ghost use Rattle.stage.specs.Stage.{stage_number, next_stage, stage_of, key_of, shown_of, waiting_of};
 ghost use Rattle.stage.specs.Enter.{enter_of};

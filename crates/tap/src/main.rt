@@ -1,5 +1,7 @@
 // The answers of `wall`, each followed by a line of what the set rings, sends and plays. With the
 // argument --ext it takes longer fills, T lines that give the outbox's length, and the lines of 02.
+#![tactic(auto)]
+
 use libc::STDERR_FILENO;
 
 fn main() {

@@ -1,4 +1,6 @@
 // What a call would have cost, for its connected time. No set is needed.
+#![tactic(auto)]
+
 ghost use Rattle.std.specs.Prelude.{◌≡◌, ℕ, ◌≤◌, ◌<◌};
 ghost use Rattle.tariff.specs.Tariff.{longest_call, bill_refusal_number, declined, bill_of, Least};
 ghost use Rattle.tariff.specs.Hours.{week_seconds, is_peak, unit_at, units_bought, Bought, bill_from, InsidePeak};

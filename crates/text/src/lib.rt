@@ -1,5 +1,7 @@
 // The text of an answer, composed in a buffer: each function writes at a place and answers the place
 // after it. Where the whole does not fit, nothing is written and the place stays.
+#![tactic(auto)]
+
 ghost use Rattle.std.specs.Prelude.{◌≡◌, ◌∷◌, [], ◌++◌, ◌+◌, ◌≤◌, ◌<◌, leb, length, take, drop};
 ghost use Rattle.text.specs.Text.{page_of, add_of};
 ghost use Rattle.text.specs.Digits.{glyph_of, last_digits, places_of, decimal_of};

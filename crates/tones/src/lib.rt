@@ -1,5 +1,7 @@
 // Samples, one at a time, of whatever stage: the click's noise, two oscillators mixed or at rest,
 // ANSam, and the digits that are dialled.
+#![tactic(auto)]
+
 ghost use Rattle.std.specs.Prelude.{◌≡◌, true};
 ghost use Rattle.tones.specs.Samples.{shifted, click_sample, mixed, ansam_sample};
 ghost use Rattle.tones.specs.Mixed.{gated_of, answer_of};

@@ -1,5 +1,7 @@
 // The set behind a 16450: the chip holds the set, the registers, and the reply text that waits for
 // the receive register. Every call takes the chip that the one before returned.
+#![tactic(auto)]
+
 ghost use Rattle.std.specs.Prelude.{◌≡◌, true, leb, length};
 ghost use Rattle.at.specs.Processor.{command_mode};
 ghost use Rattle.set.specs.Set as set;

@@ -1,4 +1,6 @@
 // 01's program: reads lines R, T, W, F and D, and prints for each what the set then shows.
+#![tactic(auto)]
+
 use libc::STDERR_FILENO;
 
 fn main() {

@@ -1,0 +1,21 @@
+-- `narrow_subnormal` meets its contract: `nearest` rounds to the unit of the subnormals, and less than half a unit is nothing. Assumes nothing.
+use lib.Pow.{pow_pos, pow_mono}
+use borrow.Author.Tests.{le-leb, lt-leb}
+use Rattle.math.proofs.Tests.{one_shl}
+use Rattle.math.specs.Steps.{narrow_bits}
+use Prim.Native.Nat.{◌-◌, ◌≤◌}
+use native.Mathlib.Omega.{arith}
+use Rattle.math.proofs.narrow_subnormal.Goals as goal
+
+pub nearest-requires : goal.nearest-requires
+nearest-requires c = let k = 926 - c.args.e in
+    let h : k ≤ 62 = omega arith in
+    record { fact_1 = rw (one_shl k (omega arith)) (pow_pos k); fact_2 = rw (one_shl k (omega arith)) (pow_mono h); fact_3 = omega arith }
+
+pub returns-then-e-ge873 : goal.returns-then-e-ge873
+unfolding narrow_bits
+returns-then-e-ge873 c = rw (lt-leb _ _ c.requires.fact_1, le-leb _ _ c.if-e-ge873.true, c.nearest.ensures, one_shl (926 - c.args.e) (omega arith))
+
+pub returns : goal.returns
+unfolding narrow_bits
+returns c = rw (lt-leb _ _ c.requires.fact_1, lt-leb _ _ c.if-e-ge873.false)
