@@ -28,7 +28,7 @@ const DCD_HOLD_TIME: u64 = 700_000_000;
 const LONGEST: u64 = 0xffff_ffff_ffff_ffff;
 
 // What the call control has to do.
-#[derive(Drop)]
+#[derive(Clone, Copy)]
 pub enum Control {
     Nothing,
     Dial,
@@ -36,7 +36,7 @@ pub enum Control {
     Hangup,
 }
 
-#[derive(Drop)]
+#[derive(Clone, Copy)]
 pub struct AtProcessor {
     pub in_command_mode: bool,
     pub cmd_buf: Line,
@@ -53,7 +53,7 @@ pub struct AtProcessor {
 }
 
 // The answer to a command line or a lapse of time.
-#[derive(Drop)]
+#[derive(Clone, Copy)]
 pub struct Outcome {
     pub processor: AtProcessor,
     pub reply: Reply,
@@ -63,7 +63,7 @@ pub struct Outcome {
 // The answer to a typed byte. `sent` counts the bytes put at the outbox's front. `line` is the line
 // that the byte ended, uppercased, or an empty one: an enum holds no array, so what a dial line has
 // after ATDT comes beside `control`.
-#[derive(Drop)]
+#[derive(Clone, Copy)]
 pub struct Fed {
     pub processor: AtProcessor,
     pub reply: Reply,

@@ -8,7 +8,7 @@ ghost use Rattle.command.specs.Command as commands;
 ghost use Rattle.command.specs.Command.{begins, is, value_from, up_to255, setting_of, command_of};
 
 // A command line: the first `len` of its bytes, and whether more were typed than it holds.
-#[derive(Drop)]
+#[derive(Clone, Copy)]
 pub struct Line {
     pub bytes: [u8; 80],
     pub len: usize,
@@ -16,7 +16,7 @@ pub struct Line {
 }
 
 // A command for each arm of at.rs's `execute`, and the two of S12.
-#[derive(Drop)]
+#[derive(Clone, Copy)]
 pub enum Command {
     At,
     Atz,

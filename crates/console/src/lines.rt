@@ -6,7 +6,7 @@ ghost use Rattle.console.specs.Lines.{call_of, is, bare_call, one_call, added_ca
 ghost use Rattle.console.specs.Parser.{largest, spoiled_of, letter_of, digit_of, comma_of, next_of, pushed_of, answer_of, parsed_of, read_of};
 
 // What a line asks for. A line that is none of these is `Other`.
-#[derive(Drop)]
+#[derive(Clone, Copy)]
 pub enum Call {
     Rate(u32),
     Typed {
@@ -43,7 +43,7 @@ pub enum Call {
 }
 
 // What the bytes of a line so far come to.
-#[derive(Drop)]
+#[derive(Clone, Copy)]
 pub struct Parser {
     // `tap --ext`: an outbox length may follow the carrier flag, fills may be longer, and there are more lines.
     extended: bool,
@@ -62,7 +62,7 @@ pub struct Parser {
     other: bool,
 }
 
-#[derive(Drop)]
+#[derive(Clone, Copy)]
 pub enum Pushed {
     // The line goes on.
     More(Parser),

@@ -4,7 +4,7 @@ ghost use Rattle.io.specs.Counts.{IsPrefixLen};
 use libc::{STDIN_FILENO, STDOUT_FILENO};
 
 // What a read gave.
-#[derive(Drop)]
+#[derive(Clone, Copy)]
 pub struct Input {
     // how many bytes: 0 at the input's end, or where it cannot be read
     pub count: usize,

@@ -15,14 +15,14 @@ use keys::Lit;
 use set::Set;
 
 // Why a cue is declined, if it is.
-#[derive(Drop)]
+#[derive(Clone, Copy)]
 pub enum Refusal {
     Accepted,
     Unsound,
     Position,
 }
 
-#[derive(Drop)]
+#[derive(Clone, Copy)]
 pub struct Cued {
     pub refusal: Refusal,
     pub sample: u64,

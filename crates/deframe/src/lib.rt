@@ -11,7 +11,7 @@ ghost use Rattle.deframe.specs.declared.Unframed.TheVariants as unframed;
 ghost use Rattle.deframe.specs.declared.Deframer.TheVariants as place;
 
 // What ten bits come to.
-#[derive(Drop)]
+#[derive(Clone, Copy)]
 pub enum Unframed {
     Byte(u8),
     // the start bit is no space, or the stop bit no mark
@@ -19,7 +19,7 @@ pub enum Unframed {
 }
 
 // The reader's place.
-#[derive(Drop)]
+#[derive(Clone, Copy)]
 pub enum Deframer {
     // between frames
     Idle,
@@ -30,7 +30,7 @@ pub enum Deframer {
 }
 
 // What a bit comes to.
-#[derive(Drop)]
+#[derive(Clone, Copy)]
 pub enum Pushed {
     // no byte, and the place after the bit
     More(Deframer),
@@ -39,7 +39,7 @@ pub enum Pushed {
 }
 
 // What a call of the reader comes to.
-#[derive(Drop)]
+#[derive(Clone, Copy)]
 pub struct Reading {
     pub place: Deframer,
     // how many bits were taken
@@ -49,7 +49,7 @@ pub struct Reading {
 }
 
 // The reader with a buffer lent, between two bits.
-#[derive(Drop)]
+#[derive(Clone, Copy)]
 struct Progress {
     place: Deframer,
     given: usize,

@@ -8,13 +8,13 @@ ghost use Rattle.edges.specs.Icon.{icon_of, shown, icon_after, IsFirst, FirstIs}
 
 use set::{Refusal, Set};
 
-#[derive(Drop)]
+#[derive(Clone, Copy)]
 pub struct Shown {
     pub refusal: Refusal,
     pub icon: u8,
 }
 
-#[derive(Drop)]
+#[derive(Clone, Copy)]
 pub struct First {
     pub refusal: Refusal,
     // from 1

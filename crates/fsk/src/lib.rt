@@ -18,7 +18,7 @@ const V21_LOW_SPACE: f64 = 1180.0;
 const FSK_AMPLITUDE: f64 = 0.7;
 
 // An oscillator, and the clock of its bits: the symbol phase, and what each sample adds to it.
-#[derive(Drop)]
+#[derive(Clone, Copy)]
 pub struct Modulator {
     pub nco: Nco,
     pub phase: f64,
@@ -26,20 +26,20 @@ pub struct Modulator {
 }
 
 // A modulator after a sample, and whether a bit is done with that sample.
-#[derive(Drop)]
+#[derive(Clone, Copy)]
 pub struct Ticked {
     pub modulator: Modulator,
     pub done: bool,
 }
 
-#[derive(Drop)]
+#[derive(Clone, Copy)]
 pub struct FskChannel {
     pub modulator: Modulator,
     pub done: u16,
 }
 
 // One sample, and the channel after it.
-#[derive(Drop)]
+#[derive(Clone, Copy)]
 pub struct Keyed {
     pub sample: f64,
     pub fsk: FskChannel,
@@ -166,7 +166,7 @@ impl FskChannel {
 }
 
 // A sample of each of two modulators.
-#[derive(Drop)]
+#[derive(Clone, Copy)]
 pub struct SampledTwice {
     pub a: f64,
     pub b: f64,

@@ -8,7 +8,7 @@ use nco::Nco;
 use session::SessionState;
 use stage::StageState;
 
-#[derive(Drop)]
+#[derive(Clone, Copy)]
 pub struct PlainStage {
     // 01's number
     pub number: u8,

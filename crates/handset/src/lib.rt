@@ -14,14 +14,14 @@ mod place;
 mod tone;
 
 // What a sample sounds: nothing, or two tones of so many hertz.
-#[derive(Drop)]
+#[derive(Clone, Copy)]
 pub enum Sound {
     Silent,
     Tones { low: u32, high: u32 },
 }
 
 // Where dial tone, Dialling and Ringback begin, and where Ringback ends, in samples from the first.
-#[derive(Drop)]
+#[derive(Clone, Copy)]
 struct Edges {
     tone: u32,
     dial: u32,
@@ -30,7 +30,7 @@ struct Edges {
 }
 
 // Samples in a row that sound alike, the first of them after so many steps of its phases.
-#[derive(Drop)]
+#[derive(Clone, Copy)]
 struct Run {
     sound: Sound,
     steps: u32,

@@ -12,7 +12,7 @@ const ROWS: [f64; 4] = [697.0, 770.0, 852.0, 941.0];
 const COLS: [f64; 4] = [1209.0, 1336.0, 1477.0, 1633.0];
 
 // The two frequencies of a key, its row's and its column's, and where it stands on the keypad: row and column, from 0.
-#[derive(Drop)]
+#[derive(Clone, Copy)]
 pub enum Tones {
     Key {
         low: f64,
@@ -24,14 +24,14 @@ pub enum Tones {
 }
 
 // The key that a drawing of the keypad lights.
-#[derive(Drop)]
+#[derive(Clone, Copy)]
 pub enum Lit {
     Key { row: u8, column: u8 },
     None,
 }
 
 // The digits of a call: the first `len` bytes, and zeros behind them.
-#[derive(Drop)]
+#[derive(Clone, Copy)]
 pub struct Digits {
     pub keys: [u8; 76],
     pub len: usize,

@@ -92,7 +92,7 @@ fn sin_rare(x: f64) -> f64
     0.0
 }
 
-#[derive(Drop)]
+#[derive(Clone, Copy)]
 pub struct SinPair {
     pub a: f64,
     pub b: f64,

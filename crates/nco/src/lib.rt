@@ -8,7 +8,7 @@ use math::TAU;
 
 pub mod lent;
 
-#[derive(Drop)]
+#[derive(Clone, Copy)]
 pub struct Nco {
     pub phase: f64,
     pub step: f64,
@@ -16,7 +16,7 @@ pub struct Nco {
 }
 
 // A sample, and the oscillator after it.
-#[derive(Drop)]
+#[derive(Clone, Copy)]
 pub struct Stepped {
     pub sample: f64,
     pub nco: Nco,
@@ -80,7 +80,7 @@ impl Nco {
 }
 
 // Two oscillators after a sample of each.
-#[derive(Drop)]
+#[derive(Clone, Copy)]
 pub struct SteppedBoth {
     pub a: Stepped,
     pub b: Stepped,

@@ -17,7 +17,7 @@ use stage::{Shown, StageState};
 use tones::Dial;
 
 // The state after the samples written, whether its stage ended with them, and how many they are.
-#[derive(Drop)]
+#[derive(Clone, Copy)]
 pub struct Wrote {
     pub state: StageState,
     pub ended: bool,
@@ -25,21 +25,21 @@ pub struct Wrote {
 }
 
 // The channel after the bits written, and how many samples they are.
-#[derive(Drop)]
+#[derive(Clone, Copy)]
 pub struct Sent {
     pub fsk: FskChannel,
     pub written: usize,
 }
 
 // Two oscillators after the samples played.
-#[derive(Drop)]
+#[derive(Clone, Copy)]
 pub struct Pair {
     pub a: Nco,
     pub b: Nco,
 }
 
 // The click's noise after the samples played, and the stage's count.
-#[derive(Drop)]
+#[derive(Clone, Copy)]
 pub struct Click {
     pub rng: u64,
     pub n: u32,
@@ -453,7 +453,7 @@ fn write_stage(state: StageState, digits: &[u8], rate: u32, out: &mut [f32]) -> 
 }
 
 // The state after a fill, and what is shown of its last sample; after an empty fill the stage of the next one, and no key.
-#[derive(Drop)]
+#[derive(Clone, Copy)]
 pub struct Filled {
     pub state: StageState,
     pub shown: Shown,

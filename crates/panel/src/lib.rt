@@ -19,7 +19,7 @@ mod page;
 mod shown;
 
 // What runs between two bytes of the input.
-#[derive(Drop)]
+#[derive(Clone, Copy)]
 struct Panel {
     set: Set,
     parser: Parser,

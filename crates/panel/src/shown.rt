@@ -18,7 +18,7 @@ use report::Report;
 use set::Set;
 
 // What `tap`'s second line tells of a call.
-#[derive(Drop)]
+#[derive(Clone, Copy)]
 pub enum Second {
     // the ring, and how many bytes of the outbox were filled
     Sent(usize),
@@ -38,7 +38,7 @@ pub enum Second {
     Lit,
 }
 
-#[derive(Drop)]
+#[derive(Clone, Copy)]
 pub struct Shown {
     pub set: Set,
     pub report: Report,

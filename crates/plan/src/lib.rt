@@ -13,14 +13,14 @@ ghost use Rattle.plan.specs.Clock.{clock_after};
 ghost use Rattle.plan.specs.Plan.{plan_refusal_number, plan_cause, plan_by, plan_of, stage_samples, total_samples, BoundsOf};
 
 // Why there is no plan, if there is none.
-#[derive(Drop)]
+#[derive(Clone, Copy)]
 pub enum Refusal {
     Accepted,
     Rate,
     Digits,
 }
 
-#[derive(Drop)]
+#[derive(Clone, Copy)]
 pub struct Plan {
     pub refusal: Refusal,
     // of stages 1 to 9, in their order
@@ -41,7 +41,7 @@ impl Refusal {
 }
 
 // The symbol clock, n samples into a stage of bits.
-#[derive(Drop)]
+#[derive(Clone, Copy)]
 struct Clock {
     n: u32,
     phase: f64,

@@ -7,14 +7,14 @@ ghost use Rattle.queue.specs.Queue.{waiting, empty_queue, is_full, is_empty, pus
 
 const PLACES: usize = 256;
 
-#[derive(Drop)]
+#[derive(Clone, Copy)]
 pub struct Queue {
     pub bytes: [u8; 256],
     pub len: usize,
 }
 
 // The queue after a byte came, and whether it was full: then the byte is not in it.
-#[derive(Drop)]
+#[derive(Clone, Copy)]
 pub struct Pushed {
     pub queue: Queue,
     pub full: bool,

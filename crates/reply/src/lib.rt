@@ -7,7 +7,7 @@ ghost use Rattle.reply.specs.Codes.{number_of, first_of, second_of};
 ghost use Rattle.ascii.specs.Front.{put, put_length};
 ghost use Rattle.reply.specs.Texts.{three_digits, text_of};
 
-#[derive(Drop)]
+#[derive(Clone, Copy)]
 pub enum Code {
     Ok,
     Connect,
@@ -19,7 +19,7 @@ pub enum Code {
 }
 
 // Rust's `Option<Response>`: no command gives more than two lines.
-#[derive(Drop)]
+#[derive(Clone, Copy)]
 pub enum Reply {
     None,
     One(Code),

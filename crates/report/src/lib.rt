@@ -8,7 +8,7 @@ ghost use Rattle.text.specs.Digits.{decimal_of};
 ghost use Rattle.report.specs.Report.{mode_text, report_line};
 
 // What is shown after a call, in 01's order and numbers.
-#[derive(Drop)]
+#[derive(Clone, Copy)]
 pub struct Report {
     pub refusal: u8,
     pub in_command_mode: bool,

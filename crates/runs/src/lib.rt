@@ -52,7 +52,7 @@ fn runs_known(n: u32, rate: u32, most: usize) -> bool
 }
 
 // The two clocks that tell the same for long: ANSam's reversals, and the rings with their gaps.
-#[derive(Drop)]
+#[derive(Clone, Copy)]
 enum Clock {
     Reversals,
     Rings,

@@ -66,7 +66,7 @@ pub fn stage_samples_for(duration: f64, rate: u32) -> u64
 }
 
 // Which digit, and whether its tone or the gap after it.
-#[derive(Drop)]
+#[derive(Clone, Copy)]
 pub struct DiallingPhase {
     pub digit: u64,
     pub tone: bool,
@@ -117,7 +117,7 @@ pub fn ringback_gate(time: f64) -> bool
 }
 
 // Which ring, and how long ago it began.
-#[derive(Drop)]
+#[derive(Clone, Copy)]
 pub struct RingProgress {
     pub ring: u8,
     pub time: f64,
@@ -153,7 +153,7 @@ pub fn symbol_step(rate: u32) -> f64
 }
 
 // The symbol clock after one more sample: its phase, and whether a bit is done.
-#[derive(Drop)]
+#[derive(Clone, Copy)]
 pub struct Ticked {
     pub phase: f64,
     pub done: bool,

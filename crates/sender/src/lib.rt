@@ -18,7 +18,7 @@ const FRAME_BITS: u8 = 10;
 
 // The byte is the one whose frame is being sent, `begun` how many of its ten bits are begun: 0 if
 // there is none. At an edge the next sample's bit is still to be chosen.
-#[derive(Drop)]
+#[derive(Clone, Copy)]
 pub struct Sender {
     pub modulator: Modulator,
     pub byte: u8,
@@ -27,14 +27,14 @@ pub struct Sender {
 }
 
 // A sender, and the bytes that wait for it.
-#[derive(Drop)]
+#[derive(Clone, Copy)]
 pub struct Sending {
     pub sender: Sender,
     pub queue: Queue,
 }
 
 // The sender after the samples of one bit, and how many they are.
-#[derive(Drop)]
+#[derive(Clone, Copy)]
 pub struct Played {
     pub sender: Sender,
     pub written: usize,

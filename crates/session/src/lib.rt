@@ -12,7 +12,7 @@ ghost use Rattle.session.specs.declared.SessionState.TheVariants.{Dialling};
 use keys::{Digits, Lit};
 use stage::{Shown, Stage, StageState};
 
-#[derive(Drop)]
+#[derive(Clone, Copy)]
 pub enum SessionState {
     Idle,
     Dialling,
@@ -20,7 +20,7 @@ pub enum SessionState {
     Connected,
 }
 
-#[derive(Drop)]
+#[derive(Clone, Copy)]
 pub struct Session {
     pub state: SessionState,
     pub digits: Digits,
@@ -32,7 +32,7 @@ pub struct Session {
 }
 
 // The session after a fill, and the key of the fill's last sample.
-#[derive(Drop)]
+#[derive(Clone, Copy)]
 pub struct Filled {
     pub session: Session,
     pub key: Lit,

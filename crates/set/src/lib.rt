@@ -30,7 +30,7 @@ const MAX_STRING: usize = 256;
 const MAX_SAMPLES: u32 = 5_000_000;
 
 // Why a call is declined, if it is.
-#[derive(Drop)]
+#[derive(Clone, Copy)]
 pub enum Refusal {
     Accepted,
     Rate,
@@ -42,7 +42,7 @@ pub enum Refusal {
     QueueFull,
 }
 
-#[derive(Drop)]
+#[derive(Clone, Copy)]
 pub struct Set {
     pub rate: u32,
     pub processor: AtProcessor,
@@ -50,13 +50,13 @@ pub struct Set {
     pub sending: Sending,
 }
 
-#[derive(Drop)]
+#[derive(Clone, Copy)]
 pub struct Made {
     pub set: Set,
     pub refusal: Refusal,
 }
 
-#[derive(Drop)]
+#[derive(Clone, Copy)]
 pub struct Typed {
     pub set: Set,
     pub refusal: Refusal,
@@ -66,7 +66,7 @@ pub struct Typed {
 }
 
 // What a byte comes to on a set that takes it.
-#[derive(Drop)]
+#[derive(Clone, Copy)]
 struct ByteTyped {
     set: Set,
     reply: Reply,
@@ -74,13 +74,13 @@ struct ByteTyped {
 }
 
 // What the bytes of a string come to.
-#[derive(Drop)]
+#[derive(Clone, Copy)]
 struct BytesTyped {
     set: Set,
     sent: usize,
 }
 
-#[derive(Drop)]
+#[derive(Clone, Copy)]
 pub struct TypedAll {
     pub set: Set,
     pub refusal: Refusal,
@@ -88,20 +88,20 @@ pub struct TypedAll {
     pub sent: usize,
 }
 
-#[derive(Drop)]
+#[derive(Clone, Copy)]
 pub struct Lapsed {
     pub set: Set,
     pub refusal: Refusal,
     pub reply: Reply,
 }
 
-#[derive(Drop)]
+#[derive(Clone, Copy)]
 pub struct Forced {
     pub set: Set,
     pub refusal: Refusal,
 }
 
-#[derive(Drop)]
+#[derive(Clone, Copy)]
 pub struct Filled {
     pub set: Set,
     pub refusal: Refusal,
@@ -109,13 +109,13 @@ pub struct Filled {
     pub key: Lit,
 }
 
-#[derive(Drop)]
+#[derive(Clone, Copy)]
 pub struct Queued {
     pub set: Set,
     pub refusal: Refusal,
 }
 
-#[derive(Drop)]
+#[derive(Clone, Copy)]
 pub struct Rung {
     pub refusal: Refusal,
     pub ring: u8,

@@ -35,7 +35,7 @@ pub const ANSAM_S: f64 = 3.0;
 
 pub const CJ_SILENCE_S: f64 = 0.075;
 
-#[derive(Drop)]
+#[derive(Clone, Copy)]
 pub enum Stage {
     OffHook,
     DialTone,
@@ -49,7 +49,7 @@ pub enum Stage {
     Connected,
 }
 
-#[derive(Drop)]
+#[derive(Clone, Copy)]
 pub enum StageState {
     OffHook {
         rng: u64,
@@ -90,7 +90,7 @@ pub enum StageState {
 }
 
 // What is shown of a sample.
-#[derive(Drop)]
+#[derive(Clone, Copy)]
 pub struct Shown {
     pub stage: Stage,
     pub key: Lit,

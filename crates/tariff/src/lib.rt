@@ -27,14 +27,14 @@ const PEAK_BEGINS: u64 = 28_800_000;
 const PEAK_ENDS: u64 = 64_800_000;
 
 // Why a call is not charged, if it is not.
-#[derive(Drop)]
+#[derive(Clone, Copy)]
 pub enum Refusal {
     Accepted,
     TooLong,
     Start,
 }
 
-#[derive(Drop)]
+#[derive(Clone, Copy)]
 pub struct Bill {
     pub refusal: Refusal,
     pub units: u64,

@@ -17,14 +17,14 @@ use session::SessionState;
 use set::{Refusal, Set};
 
 // Why a call is declined, if it is: the address, or the set's own cause.
-#[derive(Drop)]
+#[derive(Clone, Copy)]
 pub enum Cause {
     Address,
     BySet(Refusal),
 }
 
 // What the sheet's registers hold. Identification and the two status registers are worked out.
-#[derive(Drop)]
+#[derive(Clone, Copy)]
 pub struct Registers {
     pub enable: u8,
     pub line: u8,
@@ -39,33 +39,33 @@ pub struct Registers {
 }
 
 // The text that waits, and whether some was lost since line status was read.
-#[derive(Drop)]
+#[derive(Clone, Copy)]
 pub struct Inbox {
     pub queue: Queue,
     pub overrun: bool,
 }
 
-#[derive(Drop)]
+#[derive(Clone, Copy)]
 pub struct Chip {
     pub set: Set,
     pub registers: Registers,
     pub inbox: Inbox,
 }
 
-#[derive(Drop)]
+#[derive(Clone, Copy)]
 pub struct Start {
     pub chip: Chip,
     pub refusal: Cause,
 }
 
-#[derive(Drop)]
+#[derive(Clone, Copy)]
 pub struct Read {
     pub chip: Chip,
     pub refusal: Cause,
     pub value: u8,
 }
 
-#[derive(Drop)]
+#[derive(Clone, Copy)]
 pub struct Written {
     pub chip: Chip,
     pub refusal: Cause,
@@ -73,13 +73,13 @@ pub struct Written {
     pub sent: usize,
 }
 
-#[derive(Drop)]
+#[derive(Clone, Copy)]
 pub struct Lapse {
     pub chip: Chip,
     pub refusal: Cause,
 }
 
-#[derive(Drop)]
+#[derive(Clone, Copy)]
 pub struct Fill {
     pub chip: Chip,
     pub refusal: Cause,
