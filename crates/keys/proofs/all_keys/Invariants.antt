@@ -1,13 +1,9 @@
 -- `all_keys` meets its contract. The invariant: the bytes passed are all keys or not, as `all` says; `all_more` takes the step.
 -- Assumes nothing.
 use Prim.Native.Nat.{◌≤◌, ◌-◌}
-use mathlib.Core.Path.{◌≡◌, refl}
+use mathlib.Core.Path.{◌≡◌}
 use lib.ListN.{length, take}
-use lib.Seq.{take_all}
-use native.Mathlib.Omega.{arith}
-use borrow.Author.Rules.{rules}
 use Rattle.keys.specs.Keys.{all_keys}
-use Rattle.keys.proofs.Line.{all_more}
 use Rattle.keys.proofs.all_keys.Given as goal
 
 abbrev pub invariant-loop-i : goal.invariant-loop-i

@@ -1,12 +1,9 @@
 -- `dialled` meets its contract. The invariant is `Dialled`: the array holds the digits of the bytes passed.
 -- A step stores a key, passes over one that has no room, or drops another byte, each by its law. Assumes nothing.
-use Prim.Native.Nat.{◌-◌}
 use mathlib.Core.Path.{sym, ◌∙◌}
-use lib.ListN.{length}
 use lib.Seq.{take_all}
 use native.Mathlib.Omega.{arith}
-use borrow.Author.Rules.{rules}
-use Rattle.keys.proofs.Line.{Dialled, none_yet, key-stored, key-over, other-dropped}
+use Rattle.keys.proofs.Line.{none_yet, key-stored, key-over, other-dropped}
 use Rattle.keys.proofs.dialled.Goals as goal
 
 pub loop-i-init : goal.loop-i-init

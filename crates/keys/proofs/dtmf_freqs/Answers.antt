@@ -4,7 +4,6 @@ use Prim.Native.Nat.{◌/◌, ◌%◌, ◌<◌}
 use mathlib.Core.Path.{ap₂}
 use lib.Ieee.{Float, of_int, of_bits}
 use native.Mathlib.Omega.{arith}
-use borrow.Author.Rules.{rules}
 use borrow.Author.Tests.{lt-ltb, le-ltb}
 use Rattle.keys.specs.declared.Tones.TheVariants.{Key}
 use Rattle.keys.specs.Keys.{rows, columns, key_row, key_column, is_key, tones_of}
@@ -19,7 +18,7 @@ overflow_cast-column c = omega arith
 
 pub returns-then-place-lt16 : goal.returns-then-place-lt16
 unfolding tones_of is_key key_row key_column of_int of_bits
-returns-then-place-lt16 c = let place = c.key_place-place in 
+returns-then-place-lt16 c = let place = c.key_place-place in
     let row : place.result / 4 < 4 = omega arith in
     let column : place.result % 4 < 4 = omega arith in
     let found = lt-ltb _ _ c.if-place-lt16.true in record { value = rw (← place.ensures, found) (ap₂ (λ (low high : Float). Key low high (place.result / 4) (place.result % 4)) (tone-at rows _ row) (tone-at columns _ column)); names_key = (row, column, rw place.ensures (key-named _ (rw (← place.ensures) found))) }

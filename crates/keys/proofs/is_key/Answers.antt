@@ -1,6 +1,5 @@
 -- `is_key` meets its contract: a key has a place on the keypad. Assumes nothing.
 use Rattle.keys.specs.Keys.{is_key}
-use borrow.Author.Rules.{rules}
 use Rattle.keys.proofs.is_key.Goals as goal
 
 pub returns : goal.returns

@@ -1,11 +1,9 @@
 -- `key_place` meets its contract. The invariant: the byte is none of the keys passed, so its place is looked for among the rest. Assumes nothing.
-use Prim.Native.Nat.{◌+◌, ◌-◌, ◌≤◌}
 use mathlib.Core.Path.{◌≡◌, sym, ◌∙◌}
 use native.Mathlib.Nat.{add-zero}
 use native.Mathlib.Omega.{arith}
-use lib.ListN.{drop}
 use borrow.Author.Tests.{eq-eqb, ne_eqb}
-use Rattle.keys.specs.Keys.{keypad, place_in, key_place}
+use Rattle.keys.specs.Keys.{keypad}
 use Rattle.keys.proofs.Keypad.{place_found, place-passed, place_none}
 use Rattle.keys.proofs.key_place.Goals as goal
 

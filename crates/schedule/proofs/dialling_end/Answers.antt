@@ -1,5 +1,5 @@
 -- `schedule::dialling_end` meets its contract: the digit at the place, as `dialling_phase` ensures it, decides between the place and the sample after it. Assumes nothing.
-use Rattle.std.proofs.Common.{◌≡◌, ℕ, ◌+◌, ◌*◌, ◌/◌, ◌<◌, ◌≤◌, sym, ap, ◌∙◌, subst, mul-le-mul, arith, rules}
+use Rattle.std.proofs.Common.{◌≡◌, ℕ, ◌+◌, ◌*◌, ◌/◌, ◌<◌, ◌≤◌, sym, ap, ◌∙◌, subst, mul-le-mul, arith}
 use Rattle.schedule.specs.Dialling.{digit_at}
 use Rattle.schedule.proofs.Lengths.{digit_after, dialling-none, dialling-there, dialling-after}
 use Rattle.schedule.proofs.dialling_end.Goals as goal

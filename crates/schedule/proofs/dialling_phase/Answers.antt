@@ -1,5 +1,4 @@
 -- `schedule::dialling_phase` meets its contract. The digit is what `math::floor` ensures, and what is left after i × 0.2 follows once that i is put in. Assumes nothing.
-use Rattle.std.proofs.Common.{rules}
 use Rattle.schedule.specs.Dialling.{digit_at, in_tone}
 use Rattle.schedule.proofs.dialling_phase.Goals as goal
 

@@ -1,5 +1,5 @@
 -- `schedule::reversal_sign` meets its contract. Each arm returns the sign that `sign_by` picks, as the test found the rest of what `math::floor` ensures. Assumes nothing.
-use Rattle.std.proofs.Common.{rules, eq-eqb, ne_eqb}
+use Rattle.std.proofs.Common.{eq-eqb, ne_eqb}
 use Rattle.schedule.specs.Ansam.{sign_at}
 use Rattle.schedule.proofs.reversal_sign.Goals as goal
 

@@ -1,5 +1,5 @@
 -- `schedule::saturating_inc` meets its contract: by whether n is the largest. Assumes nothing.
-use Rattle.std.proofs.Common.{sym, rules}
+use Rattle.std.proofs.Common.{sym}
 use Rattle.schedule.specs.Time.{saturating_inc}
 use Rattle.schedule.proofs.Count.{inc-below, inc-stays}
 use Rattle.schedule.proofs.saturating_inc.Goals as goal

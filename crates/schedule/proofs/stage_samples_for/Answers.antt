@@ -1,5 +1,4 @@
 -- `schedule::stage_samples_for` meets its contract: `math::round` ensures it of the same product. Assumes nothing.
-use Rattle.std.proofs.Common.{rules}
 use Rattle.schedule.specs.Time.{samples_in}
 use Rattle.schedule.proofs.stage_samples_for.Goals as goal
 
