@@ -1,0 +1,14 @@
+-- `play_answer` meets its contract: the invariant is `Playing`. Assumes nothing.
+use Prim.Native.Nat.{◌-◌}
+use native.Mathlib.Omega.{arith}
+use Rattle.tones.specs.Mixed.{answer_of}
+use Rattle.overture.specs.Writers.{mixing}
+use Rattle.overture.proofs.Playing.{Playing, playing-start, playing-long, playing-again, playing-done}
+use borrow.Author.Rules.{rules}
+use Rattle.overture.proofs.play_answer.Given as goal
+
+abbrev pub invariant-loop-i : goal.invariant-loop-i
+invariant-loop-i l = Playing (mixing (λ u v. answer_of u v l.sign)) l.count (record { a = l.initial.x; b = l.initial.y }) l.initial.out l.out (record { a = l.x; b = l.y }) l.i
+
+abbrev pub decreases-loop-i : goal.decreases-loop-i
+decreases-loop-i l = l.count - l.i

@@ -1,0 +1,13 @@
+-- `play_gated` meets its contract: in tone by `play_tones`; in a gap two oscillators that rest make zeros. Assumes nothing.
+use mathlib.Core.Path.{refl}
+use Rattle.tones.specs.Mixed.{gated_of}
+use Rattle.overture.proofs.Playing.{zeros-played}
+use borrow.Author.Rules.{rules}
+use Rattle.overture.proofs.play_gated.Goals as goal
+
+pub returns-then-on : goal.returns-then-on
+returns-then-on c = rw c.if-on.true c.play_tones.ensures
+
+pub returns : goal.returns
+unfolding gated_of
+returns c = rw c.if-on.false (zeros-played _ _ refl refl _ _ _ c.write_zeros.ensures)
