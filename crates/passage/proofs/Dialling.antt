@@ -26,7 +26,6 @@ use Rattle.schedule.proofs.Lengths.{digit_after, dialling-none, dialling-ends, d
 use Rattle.tones.specs.declared.Dial.{Dial}
 use Rattle.stage.specs.declared.Stage.TheVariants as stage
 use Rattle.stage.specs.declared.StageState.{StageState}
-use Rattle.stage.specs.declared.StageState.TheVariants.{Dialling}
 use Rattle.stage.specs.Stage.{stage_of}
 use Rattle.stage.specs.Enter.{enter_of}
 use Rattle.stage.specs.Next.{dial_state, dialling_of, generate_of, state_next}

@@ -13,7 +13,6 @@ use Rattle.schedule.proofs.Total.{total-bounds, total-range}
 use Rattle.stage.specs.declared.Stage.{Stage}
 use Rattle.stage.specs.declared.Stage.TheVariants as stage
 use Rattle.stage.specs.declared.StageState.{StageState}
-use Rattle.stage.specs.declared.StageState.TheVariants.{Connected}
 use Rattle.stage.specs.Stage.{stage_number, next_stage, stage_of}
 use Rattle.stage.specs.Enter.{enter_of}
 use Rattle.overture.specs.Iteration.{fresh, after}
