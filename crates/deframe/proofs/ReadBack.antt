@@ -6,6 +6,7 @@ use mathlib.Core.Bool.{Bool, true, false, not}
 use mathlib.Core.List.{List, [], ◌∷◌, ◌++◌, map}
 use mathlib.Core.Path.{◌≡◌, refl, ◌∙◌}
 use contract.Lifetimes.{Lfts}
+use denote.Bor.{Bor}
 use denote.Ref.{MutBor, at_last}
 use lib.Dec.{eqb}
 use lib.ListN.{length, take, drop, replicate, length-map}
@@ -71,7 +72,7 @@ all-bytes : (bs : List ℕ) → Bytes bs → AllBytes bs
 all-bytes [] h = none
 all-bytes (b ∷ bs) (h, hs) = more h (all-bytes bs hs)
 
-module _ (κs : Lfts 2) (p : Deframer) (bits out : MutBor (List ℕ)) (left : List ℕ) (r : Reading)
+module _ (κs : Lfts 2) (p : Deframer) (bits : Bor (List ℕ)) (out : MutBor (List ℕ)) (left : List ℕ) (r : Reading)
     (d : read.Learnt κs (p, (bits, (out, tt))) r (p, (bits, (at_last out left, tt)))) where
   pub place_is : r.place ≡ (read_of (length out.now) p (marks bits.now)).place
   place_is = rw d.0

@@ -1,6 +1,6 @@
 -- 02, E7: what holds of the reader from any place. "From any reader state, after ten ones, frames that follow give exactly their bytes while there is
 -- room", and "the bits that several calls took, joined, give the same bytes and place in one call with room for them".
-use Rattle.std.specs.Prelude.{ℕ, ◌+◌, ◌≤◌, ◌<◌, Bool, true, List, [], ◌∷◌, ◌++◌, ◌≡◌, length, take, replicate}
+use Rattle.std.specs.Prelude.{ℕ, ◌≤◌, ◌<◌, Bool, true, List, [], ◌∷◌, ◌++◌, ◌≡◌, length, take, replicate}
 use Rattle.frame.specs.Frame.{framed}
 use Rattle.deframe.specs.declared.Deframer.{Deframer}
 use Rattle.deframe.specs.declared.Deframer.TheVariants.{Idle}
