@@ -1,6 +1,6 @@
 -- A sound sender, whatever waits for it, is sound after any number of samples; a fresh one is, and what is queued or emptied leaves it as it is. Of
 -- senders whose floats are numbers of binary64, as in any that code holds. Assumes nothing.
-use Prim.Native.Nat.{ℕ, zero, suc, ◌-◌, ◌≤◌}
+use Prim.Native.Nat.{ℕ, zero, suc, ◌≤◌}
 use native.Mathlib.Omega.{arith}
 use mathlib.Core.Path.{◌≡◌, refl}
 use mathlib.Core.Bool.{Bool, true, false, and-eq-true_iff}
