@@ -6,6 +6,7 @@ use mathlib.Core.Path.{◌≡◌, refl, ap}
 use mathlib.Core.Bool.{Bool}
 use mathlib.Core.List.{List}
 use contract.Lifetimes.{Lfts}
+use denote.Bor.{Bor}
 use denote.Ref.{MutBor, at_last}
 use lib.Ieee.{Float}
 use lib.ListN.{length}
@@ -69,7 +70,7 @@ module _ (s : Set) where
             };
       })
 
-  pub feed-all-answers : (κs : Lfts 3) (bytes : MutBor (List ℕ)) (carrier : Bool) (out codes : MutBor (List ℕ)) (left codes_left : List ℕ) (answer : TypedAll)
+  pub feed-all-answers : (κs : Lfts 3) (bytes : Bor (List ℕ)) (carrier : Bool) (out codes : MutBor (List ℕ)) (left codes_left : List ℕ) (answer : TypedAll)
       → feed-all.Learnt κs (s, (bytes, (carrier, (out, (codes, tt))))) answer
       (s, (bytes, (carrier, (at_last out left, (at_last codes codes_left, tt)))))
       → StringByCause s (string_cause s (length bytes.now) (length out.now) (length codes.now))
