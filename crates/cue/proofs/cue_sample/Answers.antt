@@ -1,0 +1,15 @@
+-- `cue_sample` meets its contract: its sums are small. Assumes nothing.
+use native.Mathlib.Omega.{arith}
+use Rattle.schedule.proofs.Lengths.{click-range, dial-tone-range}
+use Rattle.cue.proofs.Cueing.{few-samples}
+use borrow.Author.Rules.{rules}
+use Rattle.cue.proofs.cue_sample.Goals as goal
+
+pub overflow_add-result : goal.overflow_add-result
+overflow_add-result c = let p = c.requires in omega (arith, c.stage_samples_for-click.ensures, c.stage_samples_for-tone.ensures, click-range _ p.1 p.2, dial-tone-range _ p.1 p.2)
+
+pub overflow_add-result-2 : goal.overflow_add-result-2
+overflow_add-result-2 c = let p = c.requires in omega (arith, c.stage_samples_for-click.ensures, c.stage_samples_for-tone.ensures, c.samples_of_digits-digits.ensures, click-range _ p.1 p.2, dial-tone-range _ p.1 p.2, few-samples _ _ p.0 p.1 p.2)
+
+pub overflow_add-result-3 : goal.overflow_add-result-3
+overflow_add-result-3 c = let p = c.requires in omega (arith, c.stage_samples_for-click.ensures, c.stage_samples_for-tone.ensures, c.samples_of_digits-digits.ensures, click-range _ p.1 p.2, dial-tone-range _ p.1 p.2, few-samples _ _ p.0 p.1 p.2)
