@@ -3,7 +3,7 @@ use Prim.Native.Nat.{ℕ}
 use mathlib.Core.Path.{◌≡◌, refl, ap, ◌∙◌}
 use mathlib.Core.Bool.{false}
 use mathlib.Core.List.{List, [], ◌∷◌}
-use mathlib.Core.Logic.{◌⊎◌, ⊎_elim}
+use mathlib.Core.Logic.{⊎_elim}
 use lib.ListN.{length}
 use Rattle.at.specs.Processor.{fresh_s12}
 use Rattle.set.specs.declared.Set.{Set}
@@ -22,32 +22,32 @@ use Rattle.claim.specs.Before.{ends_s12, NoS12Line, AsBefore, AllAsBefore, Unset
 use Rattle.claim.proofs.Strings.{claim}
 
 one : (s : Set) → set.s12_of s ≡ fresh_s12 → (e : Event) → Did s e → ends_s12 s e.call ≡ false → AsBefore s e
-one s f e (typed byte carrier κs out left answer asked learnt) none =
-    let told : answer ≡ set.typed s byte carrier (length out.now) = learnt.0 in
-    let wrote : left ≡ set.outbox s byte out.now = learnt.1 in
-    let was : answer ≡ typed_before s byte carrier (length out.now) = told ∙ typed-as-before s f byte carrier (length out.now) none in
+one s f e (typed byte carrier was left answer promised) none =
+    let told : answer ≡ set.typed s byte carrier (length was) = promised.0 in
+    let wrote : left ≡ set.outbox s byte was = promised.1 in
+    let before : answer ≡ typed_before s byte carrier (length was) = told ∙ typed-as-before s f byte carrier (length was) none in
     record {
-      answer = rw (← was, ← outbox-as-before s f byte out.now, ← wrote);
-      s12 = ap (λ (a : Typed). set.s12_of a.set) told ∙ ⊎_elim (λ same. same ∙ f) (λ reset. reset) (typed-keeps-s12 s byte carrier (length out.now) none);
+      answer = rw (← before, ← outbox-as-before s f byte was, ← wrote);
+      s12 = ap (λ (a : Typed). set.s12_of a.set) told ∙ ⊎_elim (λ same. same ∙ f) (λ reset. reset) (typed-keeps-s12 s byte carrier (length was) none);
     }
-one s f e (lapsed ns carrier answer asked learnt) none =
-    let told : answer ≡ set.lapsed s ns carrier = learnt in
+one s f e (lapsed ns carrier answer promised) none =
+    let told : answer ≡ set.lapsed s ns carrier = promised in
     record {
       answer = ap (lapsed_event ns carrier) (told ∙ lapsed-as-before s f ns carrier);
       s12 = ap (λ (a : Lapsed). set.s12_of a.set) told ∙ lapsed-keeps-s12 s ns carrier ∙ f;
     }
-one s f e (forced answer asked learnt) none =
-    let told : answer ≡ set.forced s = learnt in
+one s f e (forced answer promised) none =
+    let told : answer ≡ set.forced s = promised in
     record { answer = ap forced_event told; s12 = ap (λ (a : Forced). set.s12_of a.set) told ∙ forced-keeps-s12 s ∙ f }
-one s f e (filled κs out left answer asked learnt) none =
-    let told : answer ≡ set.fill s (length out.now) = learnt.0 in
-    let wrote : left ≡ set.buffer s out.now = learnt.1 in
+one s f e (filled was left answer promised) none =
+    let told : answer ≡ set.fill s (length was) = promised.0 in
+    let wrote : left ≡ set.buffer s was = promised.1 in
     record {
       answer = rw (← told, ← wrote);
-      s12 = ap (λ (a : Filled). set.s12_of a.set) told ∙ fill-keeps-s12 s (length out.now) ∙ f;
+      s12 = ap (λ (a : Filled). set.s12_of a.set) told ∙ fill-keeps-s12 s (length was) ∙ f;
     }
-one s f e (queued byte answer asked learnt) none =
-    let told : answer ≡ set.byte_queued s byte = learnt in
+one s f e (queued byte answer promised) none =
+    let told : answer ≡ set.byte_queued s byte = promised in
     record { answer = ap (queued_event byte) told; s12 = ap (λ (a : Queued). set.s12_of a.set) told ∙ queued-keeps-s12 s byte ∙ f }
 
 all : (s : Set) → set.s12_of s ≡ fresh_s12 → (es : List Event) → Trace s es → NoS12Line s es → AllAsBefore s es

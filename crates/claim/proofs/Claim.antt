@@ -32,11 +32,11 @@ use Rattle.claim.proofs.Sent.{SentSoFar, blank-sent, entry-sent}
 
 -- what each call's own contract tells
 one : (r : ℕ) (k : Book) (s : Set) → Invariant r k s → (e : Event) → Did s e → Stepped r k s e
-one r k s inv e (typed byte carrier κs out left answer asked learnt) = feed-steps r k s inv byte carrier κs out left answer learnt
-one r k s inv e (lapsed ns carrier answer asked learnt) = advance-time-steps r k s inv ns carrier answer learnt
-one r k s inv e (forced answer asked learnt) = force-data-mode-steps r k s inv answer learnt
-one r k s inv e (filled κs out left answer asked learnt) = process-out-steps r k s inv κs out left answer learnt
-one r k s inv e (queued byte answer asked learnt) = queue-byte-steps r k s inv byte answer learnt
+one r k s inv e (typed byte carrier was left answer promised) = feed-steps r k s inv byte carrier was left answer promised
+one r k s inv e (lapsed ns carrier answer promised) = advance-time-steps r k s inv ns carrier answer promised
+one r k s inv e (forced answer promised) = force-data-mode-steps r k s inv answer promised
+one r k s inv e (filled was left answer promised) = process-out-steps r k s inv was left answer promised
+one r k s inv e (queued byte answer promised) = queue-byte-steps r k s inv byte answer promised
 
 -- ---- at every point of a list: the set, the book with its sender, and what came since the dial line
 pub record ListInvariant (r : ℕ) (s : Set) (k : Book) (h : SinceDial) : Type 0 where

@@ -11,3 +11,4 @@ pub mod Worked
 pub mod WorkedSent
 pub mod Cases
 pub mod Before
+pub mod Contracts

@@ -4,7 +4,6 @@ use Prim.Native.Nat.{ℕ}
 use mathlib.Core.Path.{◌≡◌, refl, ap}
 use mathlib.Core.Bool.{Bool, true}
 use mathlib.Core.List.{List, [], ◌∷◌, ◌++◌}
-use contract.Lifetimes.{Lfts}
 use lib.Ieee.{Float, binary32, of_bits}
 use lib.ListN.{length, replicate, length-replicate}
 use Rattle.set.specs.declared.Set.{Set}
@@ -17,7 +16,6 @@ use Rattle.claim.specs.Trace.{Did, typed, lapsed, forced, filled, queued}
 use Rattle.claim.specs.Claim.{call_of}
 use Rattle.claim.specs.Strings as step
 use Rattle.claim.specs.Strings.{Step, set_of, Happened, called, History, typings, calls_of, all_calls}
-use Rattle.claim.proofs.Strings.{lent}
 
 -- what is lent to a call that asks for so many bytes or so many samples
 pub record Lender : Type 0 where
@@ -41,26 +39,26 @@ pub record Made (s : Set) (call : Call) : Type 0 where
   pub did : Did s event
   pub asked : call_of event ≡ call
 
-pub makes : Lfts 1 → Lender → (s : Set) (call : Call) → Made s call
-makes κs l s (typing byte carrier room) =
+pub makes : Lender → (s : Set) (call : Call) → Made s call
+makes l s (typing byte carrier room) =
     let was = l.bytes room in
     record {
       event = typed_event byte carrier was (set.outbox s byte was) (set.typed s byte carrier (length was));
-      did = typed byte carrier κs (lent was) (set.outbox s byte was) (set.typed s byte carrier (length was)) tt (refl, refl);
+      did = typed byte carrier was (set.outbox s byte was) (set.typed s byte carrier (length was)) (refl, refl);
       asked = ap (typing byte carrier) (l.all-bytes room);
     }
-makes κs l s (time ns carrier) =
-    record { event = lapsed_event ns carrier (set.lapsed s ns carrier); did = lapsed ns carrier (set.lapsed s ns carrier) tt refl; asked = refl }
-makes κs l s forcing = record { event = forced_event (set.forced s); did = forced (set.forced s) tt refl; asked = refl }
-makes κs l s (filling b) =
+makes l s (time ns carrier) =
+    record { event = lapsed_event ns carrier (set.lapsed s ns carrier); did = lapsed ns carrier (set.lapsed s ns carrier) refl; asked = refl }
+makes l s forcing = record { event = forced_event (set.forced s); did = forced (set.forced s) refl; asked = refl }
+makes l s (filling b) =
     let was = l.samples b in
     record {
       event = filled_event was (set.buffer s was) (set.fill s (length was));
-      did = filled κs (lent was) (set.buffer s was) (set.fill s (length was)) tt (refl, refl);
+      did = filled was (set.buffer s was) (set.fill s (length was)) (refl, refl);
       asked = ap filling (l.all-samples b);
     }
-makes κs l s (queuing byte) =
-    record { event = queued_event byte (set.byte_queued s byte); did = queued byte (set.byte_queued s byte) tt refl; asked = refl }
+makes l s (queuing byte) =
+    record { event = queued_event byte (set.byte_queued s byte); did = queued byte (set.byte_queued s byte) refl; asked = refl }
 
 -- ---- and of a list of them, strings among them
 pub data Act : Type 0 where
@@ -82,17 +80,17 @@ pub record Acted (s : Set) (act : Act) : Type 0 where
   pub happened : Happened s step
   pub asked : calls_of step ≡ asked_by act
 
-pub acts-on : Lfts 3 → (s : Set) (act : Act) → Acted s act
-acts-on κs s (single call lender) =
-    let one = makes (κs.0, tt) lender s call in
+pub acts-on : (s : Set) (act : Act) → Acted s act
+acts-on s (single call lender) =
+    let one = makes lender s call in
     record { step = step.single one.event; happened = called one.event one.did; asked = ap (λ (call : Call). call ∷ []) one.asked }
-acts-on κs s (string bytes carrier outbox codes) =
+acts-on s (string bytes carrier outbox codes) =
     let answer = typed_all s bytes carrier (length outbox) (length codes) in
     let left = outbox_all s bytes carrier outbox (length codes) in
     let codes_left = codes_all s bytes carrier (length outbox) codes in
     record {
       step = step.string (string_event bytes carrier outbox left codes codes_left answer);
-      happened = step.typed_all κs (lent bytes) carrier (lent outbox) (lent codes) left codes_left answer tt (refl, (refl, refl));
+      happened = step.typed_all bytes carrier outbox left codes codes_left answer (refl, (refl, refl));
       asked = refl;
     }
 
@@ -101,9 +99,9 @@ pub record Listed (s : Set) (acts : List Act) : Type 0 where
   pub history : History s steps
   pub asked : all_calls steps ≡ all_asked acts
 
-pub every-list : (κs : Lfts 3) (s : Set) (acts : List Act) → Listed s acts
-every-list κs s [] = record { steps = []; history = tt; asked = refl }
-every-list κs s (act ∷ acts) =
-    let one = acts-on κs s act in
-    let rest = every-list κs (set_of one.step) acts in
+pub every-list : (s : Set) (acts : List Act) → Listed s acts
+every-list s [] = record { steps = []; history = tt; asked = refl }
+every-list s (act ∷ acts) =
+    let one = acts-on s act in
+    let rest = every-list (set_of one.step) acts in
     record { steps = one.step ∷ rest.steps; history = (one.happened, rest.history); asked = rw (one.asked, rest.asked) }

@@ -5,8 +5,6 @@ use native.Mathlib.Omega.{arith}
 use mathlib.Core.Path.{◌≡◌, refl, sym, ap, ◌∙◌}
 use mathlib.Core.Bool.{Bool, true, false, ◌||◌}
 use mathlib.Core.List.{List, [], ◌∷◌, ◌++◌, map}
-use contract.Lifetimes.{Lfts}
-use denote.Ref.{Bor}
 use lib.Dec.{ltb}
 use lib.ListN.{length}
 use Rattle.reply.specs.Codes.{first_of, second_of}
@@ -18,7 +16,7 @@ use Rattle.set.specs.Sound.{sound}
 use Rattle.set.specs.Set as set
 use Rattle.set.specs.String.{four, set_by, put_by, sent_by, codes_by, cause_by_lengths, string_cause, typed_all, at_front, outbox_all, codes_all}
 use Rattle.set.specs.Book.{Call, typing, Book, blank}
-use Rattle.set.proofs.Answers.{feed-all-answers}
+use Rattle.set.proofs.Answers.{typed-all-answers}
 use Rattle.claim.specs.Trace.{typed, Trace, set_after}
 use Rattle.claim.specs.Claim.{SinceDial, not_called, AllAnswered, call_of, book_after, since_after}
 use Rattle.claim.specs.Strings.{Step, set_of, Happened, called, typed_all as typed-all, History, typed_singly, singles, sent_in, codes_in, typings, calls_of, all_calls, StepAnswered, Claim}
@@ -27,13 +25,10 @@ use Rattle.claim.proofs.Sent.{sends}
 use Rattle.claim.proofs.Expand.{Counts, Expanded, expanded}
 
 -- ---- the bytes typed singly
-abbrev pub lent : {X : Type 0} → List X → Bor (List X)
-lent values = record { ref_ptr = (0, 0); now = values }
-
-singly-trace : Lfts 1 → (s : Set) (bytes : List ℕ) (carrier : Bool) → Trace s (typed_singly s bytes carrier)
-singly-trace κs s [] carrier = tt
-singly-trace κs s (byte ∷ bytes) carrier =
-    (typed byte carrier κs (lent four) (set.outbox s byte four) (set.typed s byte carrier 4) tt (refl, refl), singly-trace κs (set.typed s byte carrier 4).set bytes carrier)
+singly-trace : (s : Set) (bytes : List ℕ) (carrier : Bool) → Trace s (typed_singly s bytes carrier)
+singly-trace s [] carrier = tt
+singly-trace s (byte ∷ bytes) carrier =
+    (typed byte carrier four (set.outbox s byte four) (set.typed s byte carrier 4) (refl, refl), singly-trace (set.typed s byte carrier 4).set bytes carrier)
 
 singly-set : (s : Set) (bytes : List ℕ) (carrier : Bool) → set_after s (typed_singly s bytes carrier) ≡ set_by s bytes carrier
 unfolding set_by
@@ -71,20 +66,20 @@ module _ (s : Set) (bytes : List ℕ) (carrier : Bool) where
   codes-by true was left e = e ∙ ap (λ (l : List ℕ). at_front l was) (singly-codes s bytes carrier)
 
 -- ---- what a step comes to on a sound set
-module _ (κs : Lfts 1) (s : Set) (bytes : List ℕ) (carrier : Bool) where
+module _ (s : Set) (bytes : List ℕ) (carrier : Bool) where
   counts-by : (t : Bool) (next : Set) → next ≡ either t (set_by s bytes carrier) s
       → Counts s (either t (typed_singly s bytes carrier) []) next (either t (typings bytes carrier) [])
   counts-by false next e = record { trace = tt; set = sym e; asked = refl }
   counts-by true next e =
-      record { trace = singly-trace κs s bytes carrier; set = singly-set s bytes carrier ∙ sym e; asked = singly-calls s bytes carrier }
+      record { trace = singly-trace s bytes carrier; set = singly-set s bytes carrier ∙ sym e; asked = singly-calls s bytes carrier }
 
 pub counts : (s : Set) → sound s ≡ true → (x : Step) → Happened s x → Counts s (singles s x) (set_of x) (calls_of x)
 unfolding typed_all string_cause
 counts s ok x (called e did) = record { trace = (did, tt); set = refl; asked = refl }
-counts s ok x (typed-all κs bytes carrier out codes left codes_left answer asked learnt) =
-    let told : answer ≡ typed_all s bytes.now carrier (length out.now) (length codes.now) = learnt.0 in
-    let cause = cause_by_lengths true (length bytes.now) (length out.now) (length codes.now) in
-    counts-by (κs.0, tt) s bytes.now carrier (accepted cause) answer.set (rw ok at (ap (λ (a : TypedAll). a.set) told))
+counts s ok x (typed-all bytes carrier was left codes codes_left answer promised) =
+    let told : answer ≡ typed_all s bytes carrier (length was) (length codes) = promised.0 in
+    let cause = cause_by_lengths true (length bytes) (length was) (length codes) in
+    counts-by s bytes carrier (accepted cause) answer.set (rw ok at (ap (λ (a : TypedAll). a.set) told))
 
 never-6 : (n room places : ℕ) → refusal_number (cause_by_lengths true n room places) ≡ 6 → ⊥
 never-6 n room places six = go (ltb 256 n) (ltb room (4 * n) || ltb places (3 * n)) six
@@ -99,18 +94,18 @@ module _ (r : ℕ) (ok : rate_ok r ≡ true) where
       → ListInvariant r (set_of x) (book_after r k (calls_of x)) (since_after r k h (singles s x)) → StepAnswered r s k x
   unfolding string_cause typed_all outbox_all codes_all
   tells s k h x at (called e did) each on = each.0
-  tells s k h x at (typed-all κs bytes carrier out codes left codes_left answer asked learnt) each on =
-      let a = feed-all-answers s κs bytes carrier out codes left codes_left answer learnt in
+  tells s k h x at (typed-all bytes carrier was left codes codes_left answer promised) each on =
+      let a = typed-all-answers s bytes carrier was left codes codes_left answer promised in
       let number = ap refusal_number (rw at.sound at a.refusal) in
-      let taken = accepted (cause_by_lengths true (length bytes.now) (length out.now) (length codes.now)) in
+      let taken = accepted (cause_by_lengths true (length bytes) (length was) (length codes)) in
       record {
         number = number;
-        sound = λ (six : refusal_number answer.refusal ≡ 6). never-6 (length bytes.now) (length out.now) (length codes.now) (sym number ∙ six);
+        sound = λ (six : refusal_number answer.refusal ≡ 6). never-6 (length bytes) (length was) (length codes) (sym number ∙ six);
         unchanged = a.unchanged;
         bytes = each;
-        outbox = left_by s bytes.now carrier taken out.now left (rw at.sound at learnt.1.0);
-        sent = count_by s bytes.now carrier taken answer.sent (rw at.sound at (ap (λ (a : TypedAll). a.sent) learnt.0));
-        codes = codes-by s bytes.now carrier taken codes.now codes_left (rw at.sound at learnt.1.1);
+        outbox = left_by s bytes carrier taken was left (rw at.sound at promised.1.0);
+        sent = count_by s bytes carrier taken answer.sent (rw at.sound at (ap (λ (a : TypedAll). a.sent) promised.0));
+        codes = codes-by s bytes carrier taken codes codes_left (rw at.sound at promised.1.1);
         reports = record { count = on.follows.count; state = on.follows.state; stage = on.follows.shown };
       }
 

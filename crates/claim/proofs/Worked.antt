@@ -9,7 +9,6 @@ use mathlib.Core.Path.{◌≡◌, refl, sym, ap, subst, ◌∙◌}
 use mathlib.Core.Bool.{Bool, true, false}
 use mathlib.Core.List.{List, [], ◌∷◌, ◌++◌, map}
 use mathlib.Core.Logic.{⊎_elim}
-use contract.Lifetimes.{Lfts}
 use lib.Dec.{eqb, lit≤}
 use lib.ListN.{length, replicate}
 use borrow.Author.Tests.{le-ltb, eq-eqb, ne_eqb}
@@ -133,7 +132,7 @@ abbrev escape : List Call
 escape = time 1_000_000_000 false ∷ typings_of "+++" ++ (time 1_000_000_000 false ∷ [])
 
 abbrev pub again : List Call
-again = escape ++ typings_of "ATH\r_atdt12\r"
+again = escape ++ typings_of "ATH\rATDT12\r"
 
 -- the processor after the first dial line
 abbrev pub online : AtProcessor
@@ -172,7 +171,7 @@ acts =
     ∷ lending_zeros (time 1_000_000_000 false)
     ∷ string_of "+++"
     ∷ lending_zeros (time 1_000_000_000 false)
-    ∷ string_of "ATH\r_atdt12\r"
+    ∷ string_of "ATH\rATDT12\r"
     ∷ map lending_zeros fills
 
 acts-ask : all_asked acts ≡ calls
@@ -218,19 +217,19 @@ worked-book =
     (up-at-T _ redialled)
 
 -- ---- what comes of these calls on a set fresh at 8,000
-abbrev pub steps : Lfts 3 → List Step
-steps κs = (every-list κs (fresh_set 8000) acts).steps
+abbrev pub steps : List Step
+steps = (every-list (fresh_set 8000) acts).steps
 
-pub record Worked (κs : Lfts 3) : Type 0 where
-  pub history : History (fresh_set 8000) (steps κs)
-  pub asked : all_calls (steps κs) ≡ calls
+pub record Worked : Type 0 where
+  pub history : History (fresh_set 8000) steps
+  pub asked : all_calls steps ≡ calls
   -- the premise of the claim, with the digits 12
-  pub called : (since_after 8000 (blank 8000) not_called (all_singles (fresh_set 8000) (steps κs))).called ≡ true
-  pub digits : (book_after 8000 (blank 8000) (all_calls (steps κs))).digits ≡ ascii "12"
+  pub called : (since_after 8000 (blank 8000) not_called (all_singles (fresh_set 8000) steps)).called ≡ true
+  pub digits : (book_after 8000 (blank 8000) (all_calls steps)).digits ≡ ascii "12"
   -- m = T, and the empty fill that came there has the line up
-  pub count : (last_set (fresh_set 8000) (steps κs)).session.m ≡ T
-  pub emptied : (since_after 8000 (blank 8000) not_called (all_singles (fresh_set 8000) (steps κs))).emptied ≡ true
-  pub up : (last_set (fresh_set 8000) (steps κs)).session.state ≡ Connected
+  pub count : (last_set (fresh_set 8000) steps).session.m ≡ T
+  pub emptied : (since_after 8000 (blank 8000) not_called (all_singles (fresh_set 8000) steps)).emptied ≡ true
+  pub up : (last_set (fresh_set 8000) steps).session.state ≡ Connected
 
 module _ (count : ℕ) (h : SinceDial) (c : Up 8000 (ascii "12") count h) (e : count ≡ T) where
   emptied-at-T : h.emptied ≡ true
@@ -246,14 +245,14 @@ module _ (count : ℕ) (h : SinceDial) (c : Up 8000 (ascii "12") count h) (e : c
 progress-up : (k : Book) (h : SinceDial) → At Connected T k → Consistent 8000 k h → Up 8000 (ascii "12") k.count h
 progress-up k h a consistent = rw (a.state-is, a.digits_are) at consistent.progress
 
-pub worked : (κs : Lfts 3) → Worked κs
+pub worked : Worked
 unfolding rate_ok
-worked κs =
-    let q = every-list κs (fresh_set 8000) acts in
-    let same : all_calls (steps κs) ≡ calls = q.asked ∙ acts-ask in
-    let book : At Connected T (book_after 8000 (blank 8000) (all_calls (steps κs))) = subst (λ (cs : List Call). At Connected T (book_after 8000 (blank 8000) cs)) (sym same) worked-book in
-    let runs = fresh-runs 8000 refl (steps κs) q.history in
-    let progress : Up 8000 (ascii "12") (book_after 8000 (blank 8000) (all_calls (steps κs))).count (since_after 8000 (blank 8000) not_called (all_singles (fresh_set 8000) (steps κs))) = progress-up _ _ book runs.last.consistent in
+worked =
+    let q = every-list (fresh_set 8000) acts in
+    let same : all_calls steps ≡ calls = q.asked ∙ acts-ask in
+    let book : At Connected T (book_after 8000 (blank 8000) (all_calls steps)) = subst (λ (cs : List Call). At Connected T (book_after 8000 (blank 8000) cs)) (sym same) worked-book in
+    let runs = fresh-runs 8000 refl steps q.history in
+    let progress : Up 8000 (ascii "12") (book_after 8000 (blank 8000) (all_calls steps)).count (since_after 8000 (blank 8000) not_called (all_singles (fresh_set 8000) steps)) = progress-up _ _ book runs.last.consistent in
     record {
       history = q.history;
       asked = same;

@@ -4,7 +4,6 @@ use Prim.Native.Nat.{ℕ, suc, ◌-◌}
 use mathlib.Core.Path.{◌≡◌, refl, sym, ap, subst, ◌∙◌}
 use mathlib.Core.Bool.{Bool, true, false}
 use mathlib.Core.List.{List, [], ◌∷◌, ◌++◌, map, map-append}
-use contract.Lifetimes.{Lfts}
 use lib.Dec.{ltb}
 use lib.Ieee.{Float}
 use Rattle.ascii.specs.Upper.{upper}
@@ -152,41 +151,41 @@ none-queued =
     (fills-queue _ _ (401 ∷ 8000 ∷ 0 ∷ 3199 ∷ 65536 ∷ suc (T - 77137) ∷ 0 ∷ []) ∙ none-again _ _ _)
 
 -- ---- what comes of these calls on a set fresh at 8,000
-abbrev pub steps : Lfts 3 → List Step
-steps κs = (every-list κs (fresh_set 8000) (acts ++ map lending_zeros more)).steps
+abbrev pub steps : List Step
+steps = (every-list (fresh_set 8000) (acts ++ map lending_zeros more)).steps
 
-pub record Worked (κs : Lfts 3) : Type 0 where
-  pub history : History (fresh_set 8000) (steps κs)
-  pub up : (last_set (fresh_set 8000) (steps κs)).session.state ≡ Connected
-  pub count : (last_set (fresh_set 8000) (steps κs)).session.m ≡ T
-  pub queued : (since_after 8000 (blank 8000) not_called (all_singles (fresh_set 8000) (steps κs))).sent.queued ≡ 65 ∷ 66 ∷ []
-  pub b-waits : waiting (last_set (fresh_set 8000) (steps κs)).sending.queue ≡ 66 ∷ []
+pub record Worked : Type 0 where
+  pub history : History (fresh_set 8000) steps
+  pub up : (last_set (fresh_set 8000) steps).session.state ≡ Connected
+  pub count : (last_set (fresh_set 8000) steps).session.m ≡ T
+  pub queued : (since_after 8000 (blank 8000) not_called (all_singles (fresh_set 8000) steps)).sent.queued ≡ 65 ∷ 66 ∷ []
+  pub b-waits : waiting (last_set (fresh_set 8000) steps).sending.queue ≡ 66 ∷ []
   -- by the claim
-  pub begun : (since_after 8000 (blank 8000) not_called (all_singles (fresh_set 8000) (steps κs))).sent.begun ++ (66 ∷ []) ≡ 65 ∷ 66 ∷ []
+  pub begun : (since_after 8000 (blank 8000) not_called (all_singles (fresh_set 8000) steps)).sent.begun ++ (66 ∷ []) ≡ 65 ∷ 66 ∷ []
 
 goes_on : all_asked (acts ++ map lending_zeros more) ≡ calls ++ more
 unfolding accepted
 goes_on = refl
 
-pub worked-sent : (κs : Lfts 3) → Worked κs
+pub worked-sent : Worked
 unfolding rate_ok
-worked-sent κs =
-    let q = every-list κs (fresh_set 8000) (acts ++ map lending_zeros more) in
-    let same : all_calls (steps κs) ≡ calls ++ more = q.asked ∙ goes_on in
-    let runs = fresh-runs 8000 refl (steps κs) q.history in
+worked-sent =
+    let q = every-list (fresh_set 8000) (acts ++ map lending_zeros more) in
+    let same : all_calls steps ≡ calls ++ more = q.asked ∙ goes_on in
+    let runs = fresh-runs 8000 refl steps q.history in
     let on = more-at _ worked-book in
-    let book : book_after 8000 (blank 8000) (all_calls (steps κs)) ≡ book_after 8000 (book_after 8000 (blank 8000) calls) more =
+    let book : book_after 8000 (blank 8000) (all_calls steps) ≡ book_after 8000 (book_after 8000 (blank 8000) calls) more =
     ap (book_after 8000 (blank 8000)) same ∙ book-joined 8000 (blank 8000) calls more in
-    let queued : (since_after 8000 (blank 8000) not_called (all_singles (fresh_set 8000) (steps κs))).sent.queued ≡ 65 ∷ 66 ∷ [] =
-    since-queued (blank 8000) not_called (all_singles (fresh_set 8000) (steps κs))
-    ∙ ap (queued_in (blank 8000) []) (all_asked_lem (fresh_set 8000) (steps κs) ∙ same)
+    let queued : (since_after 8000 (blank 8000) not_called (all_singles (fresh_set 8000) steps)).sent.queued ≡ 65 ∷ 66 ∷ [] =
+    since-queued (blank 8000) not_called (all_singles (fresh_set 8000) steps)
+    ∙ ap (queued_in (blank 8000) []) (all_asked_lem (fresh_set 8000) steps ∙ same)
     ∙ queued-joined (blank 8000) [] calls more
     ∙ ap (λ (bytes : List ℕ). queued_in (book_after 8000 (blank 8000) calls) bytes more) none-queued
     ∙ on.both-queued in
-    let waits : waiting (last_set (fresh_set 8000) (steps κs)).sending.queue ≡ 66 ∷ [] =
+    let waits : waiting (last_set (fresh_set 8000) steps).sending.queue ≡ 66 ∷ [] =
     ap (λ (x : Sending). waiting x.queue) (runs.last.follows.sending ∙ ap (λ (k : Book). k.sending) book) ∙ on.b-waits in
-    let sent = (since_after 8000 (blank 8000) not_called (all_singles (fresh_set 8000) (steps κs))).sent in
-    let bytes = (sends 8000 (book_after 8000 (blank 8000) (all_calls (steps κs))) sent runs.last.sent).bytes in
+    let sent = (since_after 8000 (blank 8000) not_called (all_singles (fresh_set 8000) steps)).sent in
+    let bytes = (sends 8000 (book_after 8000 (blank 8000) (all_calls steps)) sent runs.last.sent).bytes in
     record {
       history = q.history;
       up = runs.last.follows.state ∙ ap (λ (k : Book). k.state) book ∙ on.state-is;

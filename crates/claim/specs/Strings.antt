@@ -1,8 +1,6 @@
 -- Demand 3 with 02, E3 and E10: the claim about every list of calls, strings among them. "A macro in the middle of a list of calls counts as its single
 -- bytes for the overture's wave, a declined one as none."
 use Rattle.std.specs.Prelude.{ℕ, ◌≡◌, Bool, true, List, [], ◌∷◌, ◌++◌, map, length, take}
-use contract.Lifetimes.{Lfts}
-use denote.Ref.{MutBor, at_last}
 use Rattle.reply.specs.Codes.{first_of, second_of}
 use Rattle.queue.specs.Queue.{waiting}
 use Rattle.set.specs.declared.Set.{Set}
@@ -13,7 +11,7 @@ use Rattle.set.specs.Set as set
 use Rattle.set.specs.String.{four, cause_by_lengths, at_front}
 use Rattle.set.specs.Book.{Call, typing, Book, blank, length_of}
 use Rattle.set.specs.Event.{Event, typed_event, StringEvent, string_event, StringUnchanged}
-use Rattle.set.proofs.Set.feed_all.Reads as feed-all
+use Rattle.set.specs.Promises.{IsTypedAll}
 use Rattle.claim.specs.Trace.{Did, Trace, set_after}
 use Rattle.claim.specs.Expand as expand
 use Rattle.claim.specs.Sent.{Sends}
@@ -27,14 +25,12 @@ abbrev pub set_of : Step → Set
 set_of (single e) = e.set
 set_of (string e) = e.answer.set
 
--- the step is a call on the set s, which was allowed, and did what its contract promises
+-- the step is a call on the set s, which did what its contract promises
 pub data Happened (s : Set) : Step → Type 0 where
   called : (e : Event) → Did s e → Happened s (single e)
-  typed_all : (κs : Lfts 3) (bytes : MutBor (List ℕ)) (carrier : Bool) (out codes : MutBor (List ℕ)) (left codes_left : List ℕ) (answer : TypedAll)
-      → feed-all.Asked κs (s, (bytes, (carrier, (out, (codes, tt)))))
-      → feed-all.Learnt κs (s, (bytes, (carrier, (out, (codes, tt))))) answer
-      (s, (bytes, (carrier, (at_last out left, (at_last codes codes_left, tt)))))
-      → Happened s (string (string_event bytes.now carrier out.now left codes.now codes_left answer))
+  typed_all : (bytes : List ℕ) (carrier : Bool) (was left codes codes_left : List ℕ) (answer : TypedAll)
+      → IsTypedAll s bytes carrier was left codes codes_left answer
+      → Happened s (string (string_event bytes carrier was left codes codes_left answer))
 
 -- each is made on the set that the one before returned
 abbrev pub History : Set → List Step → Type 0

@@ -28,6 +28,7 @@ use Rattle.set.specs.Refusals.{Declined}
 use Rattle.set.specs.Set.{s12_of, fresh_set, creation_cause, made, typing_cause, typed, outbox, lapse_cause, lapsed, forced_cause, forced, fill_cause, fill, buffer, queuing_cause, byte_queued, ring_cause, rung}
 use Rattle.set.specs.String.{string_cause, typed_all, outbox_all, codes_all}
 use Rattle.set.specs.Event.{outbox_of, buffer_of, typed_event, lapsed_event, forced_event, filled_event, queued_event, ByCause, string_event, StringByCause}
+use Rattle.set.specs.Promises.{IsTyped, IsTypedAll, IsFilled}
 use Rattle.set.proofs.Unchanged.{unchanged}
 use Rattle.set.proofs.Set.new.Reads as new
 use Rattle.set.proofs.Set.feed.Reads as feed
@@ -51,22 +52,45 @@ unfolding made
 new-answers r answer d = let told : answer ≡ made r = d in rw told (refl, λ declined. ap fresh_set (unchanged _ declined r 8000))
 
 module _ (s : Set) where
-  pub feed-answers : (byte : ℕ) (carrier : Bool) (κs : Lfts 1) (out : MutBor (List ℕ)) (left : List ℕ) (answer : Typed)
-      → feed.Learnt κs (s, (byte, (carrier, (out, tt)))) answer (s, (byte, (carrier, (at_last out left, tt))))
-      → ByCause s (typing_cause s (length out.now)) (typed_event byte carrier out.now left answer)
+  pub typed-answers : (byte : ℕ) (carrier : Bool) (was left : List ℕ) (answer : Typed) → IsTyped s byte carrier was left answer
+      → ByCause s (typing_cause s (length was)) (typed_event byte carrier was left answer)
   unfolding typed outbox
-  feed-answers byte carrier κs out left answer d =
-      let told : answer ≡ typed s byte carrier (length out.now) = d.0 in
-      let wrote : left ≡ outbox s byte out.now = d.1 in
+  typed-answers byte carrier was left answer d =
+      let told : answer ≡ typed s byte carrier (length was) = d.0 in
+      let wrote : left ≡ outbox s byte was = d.1 in
       rw (told, wrote) (record {
         refusal = refl;
         unchanged = λ declined.
             record {
               set = unchanged _ declined _ s;
-              lent = ap outbox_of (unchanged _ declined _ out.now);
+              lent = ap outbox_of (unchanged _ declined _ was);
               reply = unchanged _ declined _ None;
               sent = unchanged _ declined _ 0;
               key = refl;
+            };
+      })
+
+  pub feed-answers : (byte : ℕ) (carrier : Bool) (κs : Lfts 1) (out : MutBor (List ℕ)) (left : List ℕ) (answer : Typed)
+      → feed.Learnt κs (s, (byte, (carrier, (out, tt)))) answer (s, (byte, (carrier, (at_last out left, tt))))
+      → ByCause s (typing_cause s (length out.now)) (typed_event byte carrier out.now left answer)
+  feed-answers byte carrier κs out left answer d = typed-answers byte carrier out.now left answer d
+
+  pub typed-all-answers : (bytes : List ℕ) (carrier : Bool) (was left codes codes_left : List ℕ) (answer : TypedAll)
+      → IsTypedAll s bytes carrier was left codes codes_left answer
+      → StringByCause s (string_cause s (length bytes) (length was) (length codes)) (string_event bytes carrier was left codes codes_left answer)
+  unfolding typed_all outbox_all codes_all
+  typed-all-answers bytes carrier was left codes codes_left answer d =
+      let told : answer ≡ typed_all s bytes carrier (length was) (length codes) = d.0 in
+      let wrote : left ≡ outbox_all s bytes carrier was (length codes) = d.1.0 in
+      let coded : codes_left ≡ codes_all s bytes carrier (length was) codes = d.1.1 in
+      rw (told, wrote, coded) (record {
+        refusal = refl;
+        unchanged = λ declined.
+            record {
+              set = unchanged _ declined _ s;
+              outbox = unchanged _ declined _ was;
+              codes = unchanged _ declined _ codes;
+              sent = unchanged _ declined _ 0;
             };
       })
 
@@ -75,21 +99,7 @@ module _ (s : Set) where
       (s, (bytes, (carrier, (at_last out left, (at_last codes codes_left, tt)))))
       → StringByCause s (string_cause s (length bytes.now) (length out.now) (length codes.now))
       (string_event bytes.now carrier out.now left codes.now codes_left answer)
-  unfolding typed_all outbox_all codes_all
-  feed-all-answers κs bytes carrier out codes left codes_left answer d =
-      let told : answer ≡ typed_all s bytes.now carrier (length out.now) (length codes.now) = d.0 in
-      let wrote : left ≡ outbox_all s bytes.now carrier out.now (length codes.now) = d.1.0 in
-      let coded : codes_left ≡ codes_all s bytes.now carrier (length out.now) codes.now = d.1.1 in
-      rw (told, wrote, coded) (record {
-        refusal = refl;
-        unchanged = λ declined.
-            record {
-              set = unchanged _ declined _ s;
-              outbox = unchanged _ declined _ out.now;
-              codes = unchanged _ declined _ codes.now;
-              sent = unchanged _ declined _ 0;
-            };
-      })
+  feed-all-answers κs bytes carrier out codes left codes_left answer d = typed-all-answers bytes.now carrier out.now left codes.now codes_left answer d
 
   pub advance-time-answers : (ns : ℕ) (carrier : Bool) (answer : Lapsed)
       → advance-time.Learnt tt (s, (ns, (carrier, tt))) answer (s, (ns, (carrier, tt)))
@@ -111,24 +121,28 @@ module _ (s : Set) where
         unchanged = λ declined. record { set = unchanged _ declined _ s; lent = refl; reply = refl; sent = refl; key = refl };
       })
 
-  pub process-out-answers : (κs : Lfts 1) (out : MutBor (List Float)) (left : List Float) (answer : Filled)
-      → process-out.Learnt κs (s, (out, tt)) answer (s, (at_last out left, tt))
-      → ByCause s (fill_cause s (length out.now)) (filled_event out.now left answer)
+  pub filled-answers : (was left : List Float) (answer : Filled) → IsFilled s was left answer
+      → ByCause s (fill_cause s (length was)) (filled_event was left answer)
   unfolding fill buffer
-  process-out-answers κs out left answer d =
-      let told : answer ≡ fill s (length out.now) = d.0 in
-      let wrote : left ≡ buffer s out.now = d.1 in
+  filled-answers was left answer d =
+      let told : answer ≡ fill s (length was) = d.0 in
+      let wrote : left ≡ buffer s was = d.1 in
       rw (told, wrote) (record {
         refusal = refl;
         unchanged = λ declined.
             record {
               set = unchanged _ declined _ s;
-              lent = ap buffer_of (unchanged _ declined _ out.now);
+              lent = ap buffer_of (unchanged _ declined _ was);
               reply = refl;
               sent = refl;
               key = unchanged _ declined _ lit.None;
             };
       })
+
+  pub process-out-answers : (κs : Lfts 1) (out : MutBor (List Float)) (left : List Float) (answer : Filled)
+      → process-out.Learnt κs (s, (out, tt)) answer (s, (at_last out left, tt))
+      → ByCause s (fill_cause s (length out.now)) (filled_event out.now left answer)
+  process-out-answers κs out left answer d = filled-answers out.now left answer d
 
   pub queue-byte-answers : (byte : ℕ) (answer : Queued) → queue-byte.Learnt tt (s, (byte, tt)) answer (s, (byte, tt))
       → ByCause s (queuing_cause s) (queued_event byte answer)

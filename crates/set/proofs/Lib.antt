@@ -11,3 +11,4 @@ pub mod Steps
 pub mod Cases
 pub mod Before
 pub mod Lit
+pub mod Promises

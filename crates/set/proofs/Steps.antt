@@ -5,8 +5,6 @@ use Prim.Native.Nat.{ℕ}
 use mathlib.Core.Path.{◌≡◌}
 use mathlib.Core.Bool.{Bool}
 use mathlib.Core.List.{List}
-use contract.Lifetimes.{Lfts}
-use denote.Ref.{MutBor, at_last}
 use lib.Ieee.{Float}
 use lib.ListN.{length}
 use Rattle.set.specs.declared.Set.{Set}
@@ -19,51 +17,45 @@ use Rattle.set.specs.Refusals.{Declined}
 use Rattle.set.specs.Set.{typed, lapsed, forced, fill, buffer, byte_queued}
 use Rattle.set.specs.Book.{Book, entry_of}
 use Rattle.set.specs.Event.{Event, typed_event, lapsed_event, forced_event, filled_event, queued_event, Unchanged}
-use Rattle.set.proofs.Answers.{feed-answers, advance-time-answers, force-data-mode-answers, process-out-answers, queue-byte-answers}
+use Rattle.set.specs.Promises.{IsTyped, IsLapsed, IsForced, IsFilled, IsQueued}
+use Rattle.set.proofs.Answers.{typed-answers, advance-time-answers, force-data-mode-answers, filled-answers, queue-byte-answers}
 use Rattle.set.proofs.Follows.{Effect, Invariant, typing-effect, time-effect, forcing-effect, filling-effect, queuing-effect}
-use Rattle.set.proofs.Set.feed.Reads as feed
-use Rattle.set.proofs.Set.advance_time.Reads as advance-time
-use Rattle.set.proofs.Set.force_data_mode.Reads as force-data-mode
-use Rattle.set.proofs.Set.process_out.Reads as process-out
-use Rattle.set.proofs.Set.queue_byte.Reads as queue-byte
 
 pub record Stepped (r : ℕ) (k : Book) (s : Set) (e : Event) : Type 0 where
   pub effect : Effect r k (entry_of k e.call) e.set e.refusal e.key e.left.samples
   pub unchanged : Declined e.refusal → Unchanged s e
 
 module _ (r : ℕ) (k : Book) (s : Set) (inv : Invariant r k s) where
-  pub feed-steps : (byte : ℕ) (carrier : Bool) (κs : Lfts 1) (out : MutBor (List ℕ)) (left : List ℕ) (answer : Typed)
-      → feed.Learnt κs (s, (byte, (carrier, (out, tt)))) answer (s, (byte, (carrier, (at_last out left, tt))))
-      → Stepped r k s (typed_event byte carrier out.now left answer)
-  feed-steps byte carrier κs out left answer d =
-      let told : answer ≡ typed s byte carrier (length out.now) = d.0 in
+  pub feed-steps : (byte : ℕ) (carrier : Bool) (was left : List ℕ) (answer : Typed) → IsTyped s byte carrier was left answer
+      → Stepped r k s (typed_event byte carrier was left answer)
+  feed-steps byte carrier was left answer d =
+      let told : answer ≡ typed s byte carrier (length was) = d.0 in
       record {
-        effect = rw told (typing-effect r k s inv byte carrier (length out.now));
-        unchanged = (feed-answers s byte carrier κs out left answer d).unchanged;
+        effect = rw told (typing-effect r k s inv byte carrier (length was));
+        unchanged = (typed-answers s byte carrier was left answer d).unchanged;
       }
 
-  pub advance-time-steps : (ns : ℕ) (carrier : Bool) (answer : Lapsed) → advance-time.Learnt tt (s, (ns, (carrier, tt))) answer (s, (ns, (carrier, tt)))
+  pub advance-time-steps : (ns : ℕ) (carrier : Bool) (answer : Lapsed) → IsLapsed s ns carrier answer
       → Stepped r k s (lapsed_event ns carrier answer)
   advance-time-steps ns carrier answer d =
       let told : answer ≡ lapsed s ns carrier = d in
       record { effect = rw told (time-effect r k s inv ns carrier); unchanged = (advance-time-answers s ns carrier answer d).unchanged }
 
-  pub force-data-mode-steps : (answer : Forced) → force-data-mode.Learnt tt (s, tt) answer (s, tt) → Stepped r k s (forced_event answer)
+  pub force-data-mode-steps : (answer : Forced) → IsForced s answer → Stepped r k s (forced_event answer)
   force-data-mode-steps answer d =
       let told : answer ≡ forced s = d in
       record { effect = rw told (forcing-effect r k s inv); unchanged = (force-data-mode-answers s answer d).unchanged }
 
-  pub process-out-steps : (κs : Lfts 1) (out : MutBor (List Float)) (left : List Float) (answer : Filled)
-      → process-out.Learnt κs (s, (out, tt)) answer (s, (at_last out left, tt)) → Stepped r k s (filled_event out.now left answer)
-  process-out-steps κs out left answer d =
-      let told : answer ≡ fill s (length out.now) = d.0 in
-      let wrote : left ≡ buffer s out.now = d.1 in
+  pub process-out-steps : (was left : List Float) (answer : Filled) → IsFilled s was left answer → Stepped r k s (filled_event was left answer)
+  process-out-steps was left answer d =
+      let told : answer ≡ fill s (length was) = d.0 in
+      let wrote : left ≡ buffer s was = d.1 in
       record {
-        effect = rw (told, wrote) (filling-effect r k s inv out.now);
-        unchanged = (process-out-answers s κs out left answer d).unchanged;
+        effect = rw (told, wrote) (filling-effect r k s inv was);
+        unchanged = (filled-answers s was left answer d).unchanged;
       }
 
-  pub queue-byte-steps : (byte : ℕ) (answer : Queued) → queue-byte.Learnt tt (s, (byte, tt)) answer (s, (byte, tt)) → Stepped r k s (queued_event byte answer)
+  pub queue-byte-steps : (byte : ℕ) (answer : Queued) → IsQueued s byte answer → Stepped r k s (queued_event byte answer)
   queue-byte-steps byte answer d =
       let told : answer ≡ byte_queued s byte = d in
       record { effect = rw told (queuing-effect r k s inv byte); unchanged = (queue-byte-answers s byte answer d).unchanged }

@@ -5,3 +5,4 @@ pub mod String
 pub mod Book
 pub mod Event
 pub mod Before
+pub mod Promises

@@ -3,27 +3,25 @@ use mathlib.Core.Path.{◌≡◌, sym}
 use lib.ListN.{length}
 use Rattle.cue.specs.Cue.{cue_refusal_number, cue_cause, cued}
 use Rattle.cue.proofs.Cueing.{in-limits, few-digits, accepted-cued, declined-cued, first-of-digit, first-of-digit-is}
-use borrow.Author.Rules.{rules, length_unmapped}
+use borrow.Author.Rules.{rules}
 use Rattle.cue.proofs.cue.Goals as goal
 
 pub cue_sample-sample-requires : goal.cue_sample-sample-requires
-cue_sample-sample-requires c = let a = c.args in 
+cue_sample-sample-requires c = let a = c.args in
     in-limits a.set a.position (rw (← c.cue_cause-refusal.ensures, ← c.number.ensures) c.if-number-eq0.true)
 
 pub cue_key-key-requires : goal.cue_key-key-requires
-cue_key-key-requires c = let a = c.args in 
+cue_key-key-requires c = let a = c.args in
     few-digits a.set a.position (rw (← c.cue_cause-refusal.ensures, ← c.number.ensures) c.if-number-eq0.true)
 
 pub returns-then-number-eq0 : goal.returns-then-number-eq0
 unfolding cued
-returns-then-number-eq0 c = let a = c.args in 
+returns-then-number-eq0 c = let a = c.args in
     let zero : cue_refusal_number (cue_cause a.set a.position) ≡ 0 = rw (← c.cue_cause-refusal.ensures, ← c.number.ensures) c.if-number-eq0.true in
-    -- what owning the set tells of its session, and that of the digits: they have 76 places
-    let digits = c.well_formed.0.1.1.1.1.0.1.1.1.0 in 
-    let keys : length a.set.session.digits.keys ≡ 76 = length_unmapped _ a.set.session.digits.keys 76 digits.1.1.0.1.0.1 in record { value = rw (c.cue_cause-refusal.ensures, c.cue_sample-sample.ensures, c.cue_key-key.ensures, accepted-cued _ _ _ zero, first-of-digit-is a.set a.position zero keys); first_in_tone = λ _. rw c.cue_sample-sample.ensures (first-of-digit a.set a.position zero keys) }
+    let keys : length a.set.session.digits.keys ≡ 76 = search rules in record { value = rw (c.cue_cause-refusal.ensures, c.cue_sample-sample.ensures, c.cue_key-key.ensures, accepted-cued _ _ _ zero, first-of-digit-is a.set a.position zero keys); first_in_tone = λ _. rw c.cue_sample-sample.ensures (first-of-digit a.set a.position zero keys) }
 
 pub returns : goal.returns
 unfolding cued
-returns c = let a = c.args in 
+returns c = let a = c.args in
     let declined : cue_refusal_number (cue_cause a.set a.position) ≡ 0 → ⊥ = λ zero. c.if-number-eq0.false (rw (c.number.ensures, c.cue_cause-refusal.ensures) zero) in
     record { value = rw c.cue_cause-refusal.ensures (sym (declined-cued _ _ _ declined)); first_in_tone = λ zero. absurd (declined (rw (← c.cue_cause-refusal.ensures) zero)) }

@@ -1,6 +1,5 @@
 -- `cue_cause` meets its contract: an unsound set, then the state and the position. Assumes nothing.
 use Rattle.cue.specs.Cue.{cue_cause}
-use borrow.Author.Rules.{rules}
 use Rattle.cue.proofs.cue_cause.Goals as goal
 
 pub returns-then-number-position : goal.returns-then-number-position

@@ -2,7 +2,6 @@
 use native.Mathlib.Omega.{arith}
 use Rattle.schedule.proofs.Lengths.{click-range, dial-tone-range}
 use Rattle.cue.proofs.Cueing.{few-samples}
-use borrow.Author.Rules.{rules}
 use Rattle.cue.proofs.cue_sample.Goals as goal
 
 pub overflow_add-result : goal.overflow_add-result

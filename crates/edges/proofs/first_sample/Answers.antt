@@ -11,19 +11,16 @@ use Rattle.set.specs.Set.{fill}
 use Rattle.edges.specs.Icon.{IsFirst}
 use Rattle.edges.proofs.Refilled.{refilled}
 use Rattle.edges.proofs.first_sample.Goals as goal
-use Rattle.edges.proofs.first_sample.Goals.{Then-accepted}
 
 pub returns-then-accepted : goal.returns-then-accepted
-returns-then-accepted c = let at-if = (goal.at.returns-then-accepted c).Then-accepted in
-    let at_fill_lem = at-if.before.before.before.before in
-    let a = at_fill_lem.before.before.before.args in
-    let cause = ap (λ (f : Filled). f.refusal) at_fill_lem.process-out.ensures.0 in
-    let ok : accepted (fill a.set (length a.samples.now)).refusal ≡ true = sym (at-if.before.accepted.ensures ∙ ap accepted cause) ∙ at-if.if1.true in
+returns-then-accepted c = let a = c.args in 
+    let cause = ap (λ (f : Filled). f.refusal) c.process_out-filled.ensures.value in
+    let ok : accepted (fill a.set (length a.samples.now)).refusal ≡ true = sym (c.accepted.ensures ∙ ap accepted cause) ∙ c.if-accepted.true in
     record { first_is = record {
         refusal = cause;
         declined = λ e. absurd (true≢false (sym ok ∙ e));
-        first = λ _. subst (λ (k : ℕ). IsFirst a.set a.stage k c.search-sample.result) at_fill_lem.process-out.auto.1.0 c.search-sample.ensures;
-      }; samples_after = c.process_out.ensures.out_after ∙ refilled a.set a.samples.now _ (c.search-sample.auto.1.1.0 ∙ at_fill_lem.process-out.auto.1.0) ok }
+        first = λ _. subst (λ (k : ℕ). IsFirst a.set a.stage k c.search-sample.result) c.process_out-filled.auto.1.0 c.search-sample.ensures;
+      }; samples_after = c.process_out.ensures.out_after ∙ refilled a.set a.samples.now _ (c.search-sample.auto.1.1.0 ∙ c.process_out-filled.auto.1.0) ok }
 
 pub returns : goal.returns
 returns c = let a = c.args in 
