@@ -1,6 +1,6 @@
 -- 02, E14 read off `earpiece`, off the table and off the float overture's edges, each promise at its full strength and the rule's numbers written out,
 -- so that one that says less is refused here. Assumes nothing.
-use Rattle.std.proofs.Common.{◌≡◌, ℕ, suc, ◌+◌, ◌*◌, ◌<◌, ◌≤◌, true, false, cond, eqb, List, length, get_or, replicate, ℤ, pos, MutBor}
+use Rattle.std.proofs.Common.{◌≡◌, ℕ, suc, ◌+◌, ◌*◌, ◌<◌, ◌≤◌, true, false, cond, eqb, List, length, get_or, replicate, ℤ, pos, Bor, MutBor}
 use contract.Lifetimes.{Lfts}
 use denote.Ref.{at_last}
 use Rattle.math.specs.Float.{zero}
@@ -24,7 +24,7 @@ use Rattle.handset.proofs.Float.{float-edges}
 use Rattle.handset.proofs.earpiece.Reads as earpiece
 
 -- ---- the call, for every byte slice, rate, count and buffer
-module _ (κs : Lfts 2) (digits : MutBor (List ℕ)) (rate pass : ℕ) (out : MutBor (List ℤ)) (left : List ℤ) (number : ℕ)
+module _ (κs : Lfts 2) (digits : Bor (List ℕ)) (rate pass : ℕ) (out : MutBor (List ℤ)) (left : List ℤ) (number : ℕ)
     (d : earpiece.Learnt κs (digits, (rate, (pass, (out, tt)))) number (digits, (rate, (pass, (at_last out left, tt))))) where
   pub declines : number ≡ earpiece_refusal (length digits.now) rate (length out.now)
   declines = d.refusal

@@ -1,6 +1,6 @@
 -- The float overture, stage by stage: what sounds after n samples of a stage, and how many samples have sounded since its last fresh oscillators.
 -- The stages' own laws say which state a sample is made from; the steps follow by induction on the samples. Assumes nothing.
-use Rattle.std.proofs.Common.{◌≡◌, ℕ, zero, suc, ◌+◌, ◌-◌, ◌^◌, ◌<◌, ◌≤◌, Bool, true, false, ◌&&◌, eqb, List, [], ◌∷◌, length, sym, refl, ap, ◌∙◌, subst, true≢false, le_trans, le_of_eq, lt_of_lt_of_le, le_of_suc-le-suc, not-suc-le-zero, lt_of_le_of_lt, add-zero, le_of_lt, add-suc, zero-lt-suc, arith, lit<, lit≤, ne_eqb, eqb-true}
+use Rattle.std.proofs.Common.{◌≡◌, ℕ, zero, suc, ◌+◌, ◌^◌, ◌<◌, ◌≤◌, Bool, true, false, ◌&&◌, eqb, List, [], ◌∷◌, length, sym, refl, ap, ◌∙◌, subst, true≢false, le_trans, le_of_eq, lt_of_lt_of_le, le_of_suc-le-suc, not-suc-le-zero, lt_of_le_of_lt, add-zero, le_of_lt, add-suc, zero-lt-suc, arith, lit<, lit≤, ne_eqb, eqb-true}
 use Rattle.math.specs.Float.{one, of_nat}
 use Rattle.nco.specs.declared.Nco.{Nco}
 use Rattle.nco.specs.Nco.{fresh_nco}

@@ -2,7 +2,6 @@
 use mathlib.Core.Path.{refl, sym, subst, ◌∙◌}
 use native.Mathlib.Omega.{arith}
 use lib.Dec.{lit<, lit≤}
-use borrow.Author.Rules.{rules}
 use Rattle.schedule.specs.Symbols.{phase_after, done_after}
 use Rattle.schedule.proofs.Constants.{three, four}
 use Rattle.schedule.proofs.Lengths.{click-range, dial-tone-range, dialling-range, ringback-range, bits_range, ansam-range, silence-range}
@@ -34,36 +33,36 @@ run_to-ci-requires c = (c.requires.0, c.requires.1, lit≤ tt, refl, lit< tt, λ
 
 pub run_to-cm_jm-requires : goal.run_to-cm_jm-requires
 run_to-cm_jm-requires c = (
-      c.requires.0,
-      c.requires.1,
-      lit≤ tt,
-      clock-whole _ 60 _ c.run_to-ci.ensures.0,
-      omega (arith, c.run_to-ci.ensures.1),
-      subst (Fewer c.args.rate 80) (sym (clock-number _ 60 _ c.run_to-ci.ensures.0)) (fewer-before _ c.requires.0 c.requires.1 80 (lit< tt) (lit≤ tt) 60 (lit< tt) (lit≤ tt)),
-    )
+  c.requires.0,
+  c.requires.1,
+  lit≤ tt,
+  clock-whole _ 60 _ c.run_to-ci.ensures.0,
+  omega (arith, c.run_to-ci.ensures.1),
+  subst (Fewer c.args.rate 80) (sym (clock-number _ 60 _ c.run_to-ci.ensures.0)) (fewer-before _ c.requires.0 c.requires.1 80 (lit< tt) (lit≤ tt) 60 (lit< tt) (lit≤ tt)),
+)
 
 pub run_to-training-requires : goal.run_to-training-requires
 run_to-training-requires c = (
-      c.requires.0,
-      c.requires.1,
-      lit≤ tt,
-      clock-whole _ 80 _ c.run_to-cm_jm.ensures.0,
-      omega (arith, c.run_to-cm_jm.ensures.1),
-      subst (Fewer c.args.rate 300) (sym (clock-number _ 80 _ c.run_to-cm_jm.ensures.0)) (fewer-before _ c.requires.0 c.requires.1 300 (lit< tt) (lit≤ tt) 80 (lit< tt) (lit≤ tt)),
-    )
+  c.requires.0,
+  c.requires.1,
+  lit≤ tt,
+  clock-whole _ 80 _ c.run_to-cm_jm.ensures.0,
+  omega (arith, c.run_to-cm_jm.ensures.1),
+  subst (Fewer c.args.rate 300) (sym (clock-number _ 80 _ c.run_to-cm_jm.ensures.0)) (fewer-before _ c.requires.0 c.requires.1 300 (lit< tt) (lit≤ tt) 80 (lit< tt) (lit≤ tt)),
+)
 
 pub overflow_add-cj : goal.overflow_add-cj
-overflow_add-cj c = omega (arith, clock-number _ 60 _ c.run_to-ci.ensures.0, (bits_range _ c.requires.0 c.requires.1 60 (lit≤ tt)).1, c.stage_samples_for-silence.ensures, (c.stage_samples_for-silence.ensures-range _ c.requires.0 c.requires.1).1)
+overflow_add-cj c = omega (arith, clock-number _ 60 _ c.run_to-ci.ensures.0, (bits_range _ c.requires.0 c.requires.1 60 (lit≤ tt)).1, c.stage_samples_for-silence.ensures, (silence-range _ c.requires.0 c.requires.1).1)
 
 pub returns : goal.returns
 returns c = rw (
-      c.stage_samples_for-click.ensures,
-      c.stage_samples_for-tone.ensures,
-      c.dialling_samples-dialling.ensures ∙ dialling-is _ c.requires.0 c.requires.1 _ c.requires.2,
-      rw four at c.stage_samples_for-ringback.ensures,
-      rw three at c.stage_samples_for-ansam.ensures,
-      c.stage_samples_for-silence.ensures,
-      clock-number _ 60 _ c.run_to-ci.ensures.0,
-      clock-number _ 80 _ c.run_to-cm_jm.ensures.0,
-      clock-number _ 300 _ c.run_to-training.ensures.0,
-    )
+  c.stage_samples_for-click.ensures,
+  c.stage_samples_for-tone.ensures,
+  c.dialling_samples-dialling.ensures ∙ dialling-is _ c.requires.0 c.requires.1 _ c.requires.2,
+  rw four at c.stage_samples_for-ringback.ensures,
+  rw three at c.stage_samples_for-ansam.ensures,
+  c.stage_samples_for-silence.ensures,
+  clock-number _ 60 _ c.run_to-ci.ensures.0,
+  clock-number _ 80 _ c.run_to-cm_jm.ensures.0,
+  clock-number _ 300 _ c.run_to-training.ensures.0,
+)

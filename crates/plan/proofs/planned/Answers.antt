@@ -2,7 +2,6 @@
 use mathlib.Core.Path.{◌≡◌, sym, ap, subst, ◌∙◌}
 use Prim.Native.Nat.{ℕ, ◌≤◌}
 use lib.ListN.{length}
-use borrow.Author.Rules.{rules}
 use Rattle.keys.specs.declared.Digits.{Digits}
 use Rattle.plan.specs.declared.Refusal.{Refusal}
 use Rattle.plan.specs.declared.Refusal.TheVariants.{Accepted}
@@ -19,17 +18,17 @@ limits : (c : Then-number-eq0) → Limits (length c.args.digits.now) c.args.rate
 limits c = accepted-limits _ _ (zero c)
 
 -- and the digits are all that a dial line would have
-count : (c : After-dialled-dialled) → c.dialled-dialled.result.len ≡ digit_count c.args.digits.now
-count c = ap (λ (k : Digits). k.len) c.dialled-dialled.ensures ∙ dialled-count _ (limits c.before).few
+count : (c : After-dialled-dialled) → Limits (length c.args.digits.now) c.args.rate → c.dialled-dialled.result.len ≡ digit_count c.args.digits.now
+count c l = ap (λ (k : Digits). k.len) c.dialled-dialled.ensures ∙ dialled-count _ l.few
 
 pub lengths-requires : goal.lengths-requires
 lengths-requires c = let l = limits (goal.at.lengths-requires c).Then-number-eq0 in
-    (l.slow, l.fast, subst (λ (n : ℕ). n ≤ 76) (sym (count (goal.at.lengths-requires c).After-dialled-dialled)) (digits-few _ l.few))
+    (l.slow, l.fast, subst (λ (n : ℕ). n ≤ 76) (sym (count (goal.at.lengths-requires c).After-dialled-dialled l)) (digits-few _ l.few))
 
 pub returns-then-number-eq0 : goal.returns-then-number-eq0
 unfolding plan_of
 returns-then-number-eq0 c = c.lengths.ensures
-    ∙ ap (plan_by Accepted c.args.rate) (count (goal.at.returns-then-number-eq0 c).After-dialled-dialled)
+    ∙ ap (plan_by Accepted c.args.rate) (count (goal.at.returns-then-number-eq0 c).After-dialled-dialled (limits (goal.at.returns-then-number-eq0 c).Then-number-eq0))
     ∙ ap (λ (k : Refusal). plan_by k c.args.rate (digit_count c.args.digits.now)) (sym (number-accepted (plan_cause (length c.args.digits.now) c.args.rate) (zero (goal.at.returns-then-number-eq0 c).Then-number-eq0)))
 
 pub returns : goal.returns

@@ -5,7 +5,6 @@ use mathlib.Core.Bool.{and-eq-true_iff}
 use native.Mathlib.Omega.{arith}
 use lib.Dec.{leb}
 use lib.ListN.{get_or}
-use borrow.Author.Rules.{rules}
 use borrow.Author.Tests.{leb-true}
 use Rattle.plan.specs.declared.Plan.{Plan}
 use Rattle.plan.proofs.Counts.{stage-count, stage-none}

@@ -1,10 +1,8 @@
 -- `plan::symbol` meets its contract: the invariant is `WithinBit`, and the loop is left when the clock says that the bit is done. Assumes nothing.
-use Prim.Native.Nat.{ℕ, ◌-◌, ◌≤◌, ◌<◌}
+use Prim.Native.Nat.{ℕ, ◌≤◌, ◌<◌}
 use mathlib.Core.Path.{◌≡◌, refl, sym, ap, subst}
 use mathlib.Core.Bool.{false}
 use native.Mathlib.Omega.{arith}
-use borrow.Author.Rules.{rules}
-use borrow.Author.Tests.{not-true, not-false}
 use Rattle.schedule.specs.Symbols.{symbol_step, phase_after, done_after}
 use Rattle.plan.specs.declared.Clock.{Clock}
 use Rattle.plan.proofs.Bits.{WithinBit, first-sample, next-sample, one_more, none_before, early, not-long}
@@ -20,7 +18,7 @@ done_at c = ap (λ (k : Clock). k.done) c.requires.2
 
 -- in the loop the bit is not done
 open-bit : (c : In-loop-done) → (WithinBit c.args.rate c.args.from.n c.args.from.done c.loop-done.n c.loop-done.phase false)
-open-bit c = subst (WithinBit _ _ _ _ _) (not-true _ c.loop-done-test.true) c.loop-done.invariant
+open-bit c = subst (WithinBit _ _ _ _ _) c.loop-done-test.true c.loop-done.invariant
 
 short : (c : In-loop-done) → c.loop-done.n ≤ 192000
 short c = not-long _ c.requires.0 c.requires.1 _ _ _ _ c.requires.3 (open-bit c)
@@ -45,5 +43,5 @@ pub overflow_add-result : goal.overflow_add-result
 overflow_add-result c = omega (arith, c.requires.3)
 
 pub returns : goal.returns
-returns c = let w = subst (WithinBit _ _ _ _ _) (not-false _ c.loop-done-test.false) c.loop-done.invariant in
+returns c = let w = subst (WithinBit _ _ _ _ _) c.loop-done-test.false c.loop-done.invariant in
     (rw (w.phase-is, one_more _ _ _ _ _ w), refl, none_before _ _ _ _ _ w)

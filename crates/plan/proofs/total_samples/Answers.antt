@@ -2,7 +2,6 @@
 use Prim.Native.Nat.{ℕ, ◌≤◌}
 use mathlib.Core.Path.{◌≡◌, sym, ap, subst, ◌∙◌}
 use native.Mathlib.Omega.{arith}
-use borrow.Author.Rules.{rules}
 use Rattle.keys.specs.Keys.{digits_of}
 use Rattle.passage.specs.Overture.{HasLength}
 use Rattle.plan.specs.declared.Plan.{Plan}

@@ -1,21 +1,11 @@
 -- `tone::entry` meets its contract: it is the wave's entry, and each entry of the wave is right. Assumes nothing.
-use Rattle.std.proofs.Common.{◌≡◌, ℕ, ◌/◌, ◌^◌, ◌<◌, List, get_or, ℤ, pos, sym, ap, ◌∙◌, subst, w32, to_z, of_z, rules}
+use Rattle.std.proofs.Common.{◌≡◌, ℕ, ◌/◌, ◌^◌, ◌<◌, List, get_or, ℤ, pos, sym, ap, ◌∙◌, subst, w32, to_z, of_z}
 use Rattle.handset.specs.Rule.{IsSine}
 use Rattle.handset.specs.Wave.{wave}
 use Rattle.handset.specs.Tone.{entry_at}
 use Rattle.handset.proofs.Entries.{picked}
 use Rattle.handset.proofs.Gain.{entry-back}
-use Rattle.handset.proofs.tone.entry.Statement.{statement}
-use Rattle.handset.proofs.tone.entry.Tie as tie
-
-cast-k : tie.Need-overflow-cast-k
-cast-k c = search rules
-
-mul-result : tie.Need-overflow-mul-result
-mul-result c = search rules
-
-element-copy-out-result : tie.Need-element-copy-out-result
-element-copy-out-result c = search rules
+use Rattle.handset.proofs.tone.entry.Goals as goal
 
 -- as it lay in its word
 read : (table : List ℤ) (phase : ℕ) → table ≡ wave → phase < 2 ^ 32
@@ -25,8 +15,5 @@ read table phase e h =
     let back = entry-back phase (get_or table (phase / 2 ^ 22) (pos 0)) is ∙ is in
     (back, subst (IsSine (phase / 2 ^ 22)) (sym back) (picked phase h))
 
-returns : tie.Need-returns
-returns c = read c.before.args.table.now c.before.args.phase c.before.requires c.before.ranges.phase.fits
-
-pub entry_spec : {M : Type 1} → statement M
-entry_spec = tie.close (tie.spec cast-k mul-result element-copy-out-result returns)
+pub returns : goal.returns
+returns c = read c.args.table.now c.args.phase c.requires c.ranges.phase.fits
