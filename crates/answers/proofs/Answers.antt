@@ -4,23 +4,20 @@ use mathlib.Core.Path.{◌≡◌, refl, sym, ◌∙◌}
 use mathlib.Core.Bool.{Bool, true, false}
 use mathlib.Core.List.{List, [], ◌∷◌}
 use native.Mathlib.Omega.{arith}
-use contract.Lifetimes.{Lfts}
-use denote.Ref.{MutBor, at_last}
 use lib.Dec.{leb}
 use lib.ListN.{length}
 use Rattle.ascii.specs.Front.{put_if, put, put_length_if, put_length}
 use Rattle.reply.specs.Texts.{text_of}
 use Rattle.nco.specs.Lent.{lent_sample, lent_nco}
 use Rattle.set.specs.declared.Set.{Set}
-use Rattle.set.proofs.Answers.{new-answers, feed-answers, feed-all-answers, advance-time-answers, force-data-mode-answers, process-out-answers, queue-byte-answers, ring-number-answers}
-use Rattle.cue.proofs.Answers.{cue-answers}
+use Rattle.set.proofs.Answers.{new-answers, typed-answers, typed-all-answers, advance-time-answers, force-data-mode-answers, filled-answers, queue-byte-answers, ring-number-answers}
+use Rattle.cue.proofs.Answers.{cued-answers}
 use Rattle.set.specs.declared.Refusal.{Refusal}
 use Rattle.set.specs.declared.Refusal.TheVariants.{Accepted, Rate, Outbox, Length, Unsound, StringLength, StringRoom, QueueFull}
 use Rattle.set.specs.Refusals.{refusal_number}
 use Rattle.cue.specs.declared.Refusal as cue_refusal
 use Rattle.cue.specs.declared.Refusal.TheVariants as cue
 use Rattle.cue.specs.Cue.{cue_refusal_number}
-use Rattle.reply.proofs.write_reply.Reads as write-reply
 use Rattle.answers.specs.Answers.{Answers}
 
 -- a text of which nothing is written leaves the buffer
@@ -33,19 +30,19 @@ nothing_written text was e = go (leb (length text) (length was)) text e
     go true [] e = refl
     go true (x ∷ text) e = let no : ⊥ = omega arith in absurd no
 
-writer-answers : (code s12 : ℕ) (κs : Lfts 1) (out : MutBor (List ℕ)) (left : List ℕ) (n : ℕ)
-    → write-reply.Learnt κs (code, (s12, (out, tt))) n (code, (s12, (at_last out left, tt)))
-    → (n ≡ put_length (text_of code s12) (length out.now)) × (n ≡ 0 → left ≡ out.now)
-writer-answers code s12 κs out left n d =
-    let told : n ≡ put_length (text_of code s12) (length out.now) = d.0 in
-    let wrote : left ≡ put (text_of code s12) out.now = d.1 in
-    (told, λ nothing. wrote ∙ nothing_written (text_of code s12) out.now (sym told ∙ nothing))
+pub writer-answers : (code s12 : ℕ) (out left : List ℕ) (n : ℕ)
+    → (n ≡ put_length (text_of code s12) (length out)) × (left ≡ put (text_of code s12) out)
+    → (n ≡ put_length (text_of code s12) (length out)) × (n ≡ 0 → left ≡ out)
+writer-answers code s12 out left n d =
+    let told : n ≡ put_length (text_of code s12) (length out) = d.0 in
+    let wrote : left ≡ put (text_of code s12) out = d.1 in
+    (told, λ nothing. wrote ∙ nothing_written (text_of code s12) out (sym told ∙ nothing))
 
 -- 02, E1 and E10: the numbers that are given no more
-abbrev Never : ℕ → Type 0
+abbrev pub Never : ℕ → Type 0
 Never n = (n ≡ 4 → ⊥) × (n ≡ 5 → ⊥)
 
-never : (refusal : Refusal) → Never (refusal_number refusal)
+pub never : (refusal : Refusal) → Never (refusal_number refusal)
 never Accepted = (λ e. omega arith, λ e. omega arith)
 never Rate = (λ e. omega arith, λ e. omega arith)
 never Outbox = (λ e. omega arith, λ e. omega arith)
@@ -55,7 +52,7 @@ never StringLength = (λ e. omega arith, λ e. omega arith)
 never StringRoom = (λ e. omega arith, λ e. omega arith)
 never QueueFull = (λ e. omega arith, λ e. omega arith)
 
-cue-never : (refusal : cue_refusal.Refusal) → Never (cue_refusal_number refusal)
+pub cue-never : (refusal : cue_refusal.Refusal) → Never (cue_refusal_number refusal)
 cue-never cue.Accepted = (λ e. omega arith, λ e. omega arith)
 cue-never cue.Unsound = (λ e. omega arith, λ e. omega arith)
 cue-never cue.Position = (λ e. omega arith, λ e. omega arith)
@@ -64,17 +61,17 @@ pub answers : (s : Set) → Answers s
 unfolding lent_sample lent_nco
 answers s =
     record {
-      creation = λ r. (tt, new-answers r);
-      typing = λ byte carrier κs out. (tt, feed-answers s byte carrier κs out);
-      string = λ κs bytes carrier out codes. (tt, feed-all-answers s κs bytes carrier out codes);
-      time = λ ns carrier. (tt, advance-time-answers s ns carrier);
-      forcing = (tt, force-data-mode-answers s);
-      filling = λ κs out. (tt, process-out-answers s κs out);
-      queuing = λ byte. (tt, queue-byte-answers s byte);
-      ring = (tt, ring-number-answers s);
-      cue = λ p. (tt, cue-answers s p);
+      creation = new-answers;
+      typing = typed-answers s;
+      string = typed-all-answers s;
+      time = advance-time-answers s;
+      forcing = force-data-mode-answers s;
+      filling = filled-answers s;
+      queuing = queue-byte-answers s;
+      ring = ring-number-answers s;
+      cue = cued-answers s;
       never4 = (λ refusal. (never refusal).0, λ refusal. (cue-never refusal).0);
       never5 = (λ refusal. (never refusal).1, λ refusal. (cue-never refusal).1);
-      writer = λ code s12 κs out. (tt, writer-answers code s12 κs out);
+      writer = writer-answers;
       oscillator = λ nco outside. (rw outside, rw outside);
     }

@@ -5,7 +5,9 @@ use mathlib.Core.Path.{◌≡◌}
 use mathlib.Core.Bool.{Bool, false, ◌&&◌}
 use mathlib.Core.List.{List}
 use contract.Lifetimes.{Lfts}
-use denote.Ref.{MutBor, at_last}
+use denote.Bor.{Bor}
+use denote.MutBor.{MutBor}
+use denote.Ref.{at_last}
 use lib.Ieee.{Float}
 use lib.ListN.{length}
 use Rattle.math.specs.Float.{zero}
@@ -104,56 +106,57 @@ module _ (s : Set) (r : Bool) (d : is-sound.Learnt tt (s, tt) r (s, tt)) where
       → new.Asked tt (r, tt)
       × ((answer : Made) → new.Learnt tt (r, tt) answer (r, tt)
       → (answer.refusal ≡ creation_cause r) × (Declined answer.refusal → answer.set ≡ fresh_set 8000))
-  creation-answers = told.creation
+  creation-answers r = (tt, λ answer d. told.creation r answer d)
 
   pub typing-answers : (byte : ℕ) (carrier : Bool) (κs : Lfts 1) (out : MutBor (List ℕ))
       → feed.Asked κs (s, (byte, (carrier, (out, tt))))
       × ((left : List ℕ) (answer : Typed) → feed.Learnt κs (s, (byte, (carrier, (out, tt)))) answer (s, (byte, (carrier, (at_last out left, tt))))
       → ByCause s (typing_cause s (length out.now)) (typed_event byte carrier out.now left answer))
-  typing-answers = told.typing
+  typing-answers byte carrier κs out = (tt, λ left answer d. told.typing byte carrier out.now left answer d)
 
-  pub string-answers : (κs : Lfts 3) (bytes : MutBor (List ℕ)) (carrier : Bool) (out codes : MutBor (List ℕ))
+  pub string-answers : (κs : Lfts 3) (bytes : Bor (List ℕ)) (carrier : Bool) (out codes : MutBor (List ℕ))
       → feed-all.Asked κs (s, (bytes, (carrier, (out, (codes, tt)))))
       × ((left codes_left : List ℕ) (answer : TypedAll)
       → feed-all.Learnt κs (s, (bytes, (carrier, (out, (codes, tt))))) answer
       (s, (bytes, (carrier, (at_last out left, (at_last codes codes_left, tt)))))
       → StringByCause s (string_cause s (length bytes.now) (length out.now) (length codes.now))
       (string_event bytes.now carrier out.now left codes.now codes_left answer))
-  string-answers = told.string
+  string-answers κs bytes carrier out codes =
+      (tt, λ left codes_left answer d. told.string bytes.now carrier out.now left codes.now codes_left answer d)
 
   pub time-answers : (ns : ℕ) (carrier : Bool)
       → advance-time.Asked tt (s, (ns, (carrier, tt)))
       × ((answer : Lapsed) → advance-time.Learnt tt (s, (ns, (carrier, tt))) answer (s, (ns, (carrier, tt)))
       → ByCause s (lapse_cause s) (lapsed_event ns carrier answer))
-  time-answers = told.time
+  time-answers ns carrier = (tt, λ answer d. told.time ns carrier answer d)
 
   pub forcing-answers :
       force-data-mode.Asked tt (s, tt)
       × ((answer : Forced) → force-data-mode.Learnt tt (s, tt) answer (s, tt) → ByCause s (forced_cause s) (forced_event answer))
-  forcing-answers = told.forcing
+  forcing-answers = (tt, λ answer d. told.forcing answer d)
 
   pub filling-answers : (κs : Lfts 1) (out : MutBor (List Float))
       → process-out.Asked κs (s, (out, tt))
       × ((left : List Float) (answer : Filled) → process-out.Learnt κs (s, (out, tt)) answer (s, (at_last out left, tt))
       → ByCause s (fill_cause s (length out.now)) (filled_event out.now left answer))
-  filling-answers = told.filling
+  filling-answers κs out = (tt, λ left answer d. told.filling out.now left answer d)
 
   pub queuing-answers : (byte : ℕ)
       → queue-byte.Asked tt (s, (byte, tt))
       × ((answer : Queued) → queue-byte.Learnt tt (s, (byte, tt)) answer (s, (byte, tt)) → ByCause s (queuing_cause s) (queued_event byte answer))
-  queuing-answers = told.queuing
+  queuing-answers byte = (tt, λ answer d. told.queuing byte answer d)
 
   pub ring-answers :
       ring-number.Asked tt (s, tt)
       × ((answer : Rung) → ring-number.Learnt tt (s, tt) answer (s, tt)
       → (answer.refusal ≡ ring_cause s) × (Declined answer.refusal → answer.ring ≡ 0))
-  ring-answers = told.ring
+  ring-answers = (tt, λ answer d. told.ring answer d)
 
   pub cue-answers : (p : ℕ)
       → cue.Asked tt (s, (p, tt))
       × ((answer : Cued) → cue.Learnt tt (s, (p, tt)) answer (s, (p, tt))
       → (answer.refusal ≡ cue_cause s p) × ((cue_refusal_number answer.refusal ≡ 0 → ⊥) → (answer.sample ≡ 0) × (answer.key ≡ lit.None)))
-  cue-answers = told.cue
+  cue-answers p = (tt, λ answer d. told.cue p answer d.0)
 
   pub never-4 : ((refusal : Refusal) → refusal_number refusal ≡ 4 → ⊥) × ((refusal : cue_refusal.Refusal) → cue_refusal_number refusal ≡ 4 → ⊥)
   never-4 = told.never4
@@ -165,7 +168,7 @@ module _ (s : Set) (r : Bool) (d : is-sound.Learnt tt (s, tt) r (s, tt)) where
       → write-reply.Asked κs (code, (s12, (out, tt)))
       × ((left : List ℕ) (n : ℕ) → write-reply.Learnt κs (code, (s12, (out, tt))) n (code, (s12, (at_last out left, tt)))
       → (n ≡ put_length (text_of code s12) (length out.now)) × (n ≡ 0 → left ≡ out.now))
-  writer-answers = told.writer
+  writer-answers code s12 κs out = (tt, λ left n d. told.writer code s12 out.now left n d)
 
   pub oscillator-answers : (nco : Nco) → phase_in_range nco.phase && phase_in_range nco.step ≡ false → (lent_sample nco ≡ zero) × (lent_nco nco ≡ nco)
   oscillator-answers = told.oscillator

@@ -1,14 +1,12 @@
 -- Demand 1: "A byte, a lapse of time or a sample buffer handed in gets an answer always. If refused, it gets 01's number, and set and lent
--- buffers keep their contents." Over the calls' own contracts, and for every set s, sound or not: `Asked` is what the toolchain makes of a
--- call's `requires`, `Learnt` of its `ensures`. A call that asks nothing is answered always.
+-- buffers keep their contents." Over what the calls' contracts promise, and for every set s, sound or not. That each call asks nothing, and so is
+-- answered always, and that it promises this, is in proofs/Contracts.antt.
 use Rattle.std.specs.Prelude.{ℕ, ◌≡◌, Bool, false, ◌&&◌, List, Float, length}
-use contract.Lifetimes.{Lfts}
-use denote.Ref.{MutBor, at_last}
 use Rattle.math.specs.Float.{zero}
 use Rattle.nco.specs.declared.Nco.{Nco}
 use Rattle.nco.specs.Nco.{phase_in_range}
 use Rattle.nco.specs.Lent.{lent_sample, lent_nco}
-use Rattle.ascii.specs.Front.{put_length}
+use Rattle.ascii.specs.Front.{put, put_length}
 use Rattle.keys.specs.declared.Lit.TheVariants as lit
 use Rattle.reply.specs.Texts.{text_of}
 use Rattle.set.specs.declared.Set.{Set}
@@ -25,71 +23,39 @@ use Rattle.set.specs.Refusals.{refusal_number, Declined}
 use Rattle.set.specs.Set.{fresh_set, creation_cause, typing_cause, lapse_cause, forced_cause, fill_cause, queuing_cause, ring_cause}
 use Rattle.set.specs.String.{string_cause}
 use Rattle.set.specs.Event.{typed_event, lapsed_event, forced_event, filled_event, queued_event, ByCause, string_event, StringByCause}
+use Rattle.set.specs.Promises.{IsMade, IsTyped, IsTypedAll, IsLapsed, IsForced, IsFilled, IsQueued, IsRung}
 use Rattle.cue.specs.declared.Cued.{Cued}
 use Rattle.cue.specs.declared.Refusal as cue_refusal
-use Rattle.cue.specs.Cue.{cue_refusal_number, cue_cause}
-use Rattle.set.proofs.Set.new.Reads as new
-use Rattle.set.proofs.Set.feed.Reads as feed
-use Rattle.set.proofs.Set.feed_all.Reads as feed-all
-use Rattle.set.proofs.Set.advance_time.Reads as advance-time
-use Rattle.set.proofs.Set.force_data_mode.Reads as force-data-mode
-use Rattle.set.proofs.Set.process_out.Reads as process-out
-use Rattle.set.proofs.Set.queue_byte.Reads as queue-byte
-use Rattle.set.proofs.Set.ring_number.Reads as ring-number
-use Rattle.cue.proofs.cue.Reads as cue
-use Rattle.reply.proofs.write_reply.Reads as write-reply
+use Rattle.cue.specs.Cue.{cue_refusal_number, cue_cause, cued}
 
 pub record Answers (s : Set) : Type 0 where
   -- creation: a refused one gives a fresh set at 8,000
-  pub creation : (r : ℕ)
-      → new.Asked tt (r, tt)
-      × ((answer : Made) → new.Learnt tt (r, tt) answer (r, tt)
-      → (answer.refusal ≡ creation_cause r) × (Declined answer.refusal → answer.set ≡ fresh_set 8000))
-  pub typing : (byte : ℕ) (carrier : Bool) (κs : Lfts 1) (out : MutBor (List ℕ))
-      → feed.Asked κs (s, (byte, (carrier, (out, tt))))
-      × ((left : List ℕ) (answer : Typed) → feed.Learnt κs (s, (byte, (carrier, (out, tt)))) answer (s, (byte, (carrier, (at_last out left, tt))))
-      → ByCause s (typing_cause s (length out.now)) (typed_event byte carrier out.now left answer))
+  pub creation : (r : ℕ) (answer : Made) → IsMade r answer
+      → (answer.refusal ≡ creation_cause r) × (Declined answer.refusal → answer.set ≡ fresh_set 8000)
+  pub typing : (byte : ℕ) (carrier : Bool) (out left : List ℕ) (answer : Typed) → IsTyped s byte carrier out left answer
+      → ByCause s (typing_cause s (length out)) (typed_event byte carrier out left answer)
   -- 02, E3: a string
-  pub string : (κs : Lfts 3) (bytes : MutBor (List ℕ)) (carrier : Bool) (out codes : MutBor (List ℕ))
-      → feed-all.Asked κs (s, (bytes, (carrier, (out, (codes, tt)))))
-      × ((left codes_left : List ℕ) (answer : TypedAll)
-      → feed-all.Learnt κs (s, (bytes, (carrier, (out, (codes, tt))))) answer
-      (s, (bytes, (carrier, (at_last out left, (at_last codes codes_left, tt)))))
-      → StringByCause s (string_cause s (length bytes.now) (length out.now) (length codes.now))
-      (string_event bytes.now carrier out.now left codes.now codes_left answer))
-  pub time : (ns : ℕ) (carrier : Bool)
-      → advance-time.Asked tt (s, (ns, (carrier, tt)))
-      × ((answer : Lapsed) → advance-time.Learnt tt (s, (ns, (carrier, tt))) answer (s, (ns, (carrier, tt)))
-      → ByCause s (lapse_cause s) (lapsed_event ns carrier answer))
-  pub forcing :
-      force-data-mode.Asked tt (s, tt)
-      × ((answer : Forced) → force-data-mode.Learnt tt (s, tt) answer (s, tt) → ByCause s (forced_cause s) (forced_event answer))
-  pub filling : (κs : Lfts 1) (out : MutBor (List Float))
-      → process-out.Asked κs (s, (out, tt))
-      × ((left : List Float) (answer : Filled) → process-out.Learnt κs (s, (out, tt)) answer (s, (at_last out left, tt))
-      → ByCause s (fill_cause s (length out.now)) (filled_event out.now left answer))
+  pub string : (bytes : List ℕ) (carrier : Bool) (out left codes codes_left : List ℕ) (answer : TypedAll)
+      → IsTypedAll s bytes carrier out left codes codes_left answer
+      → StringByCause s (string_cause s (length bytes) (length out) (length codes)) (string_event bytes carrier out left codes codes_left answer)
+  pub time : (ns : ℕ) (carrier : Bool) (answer : Lapsed) → IsLapsed s ns carrier answer
+      → ByCause s (lapse_cause s) (lapsed_event ns carrier answer)
+  pub forcing : (answer : Forced) → IsForced s answer → ByCause s (forced_cause s) (forced_event answer)
+  pub filling : (out left : List Float) (answer : Filled) → IsFilled s out left answer
+      → ByCause s (fill_cause s (length out)) (filled_event out left answer)
   -- 02, E10: a byte that is queued
-  pub queuing : (byte : ℕ)
-      → queue-byte.Asked tt (s, (byte, tt))
-      × ((answer : Queued) → queue-byte.Learnt tt (s, (byte, tt)) answer (s, (byte, tt)) → ByCause s (queuing_cause s) (queued_event byte answer))
+  pub queuing : (byte : ℕ) (answer : Queued) → IsQueued s byte answer → ByCause s (queuing_cause s) (queued_event byte answer)
   -- a refused ring or cue is 0; 02, E8: and has no key
-  pub ring :
-      ring-number.Asked tt (s, tt)
-      × ((answer : Rung) → ring-number.Learnt tt (s, tt) answer (s, tt)
-      → (answer.refusal ≡ ring_cause s) × (Declined answer.refusal → answer.ring ≡ 0))
-  pub cue : (p : ℕ)
-      → cue.Asked tt (s, (p, tt))
-      × ((answer : Cued) → cue.Learnt tt (s, (p, tt)) answer (s, (p, tt))
-      → (answer.refusal ≡ cue_cause s p) × ((cue_refusal_number answer.refusal ≡ 0 → ⊥) → (answer.sample ≡ 0) × (answer.key ≡ lit.None)))
+  pub ring : (answer : Rung) → IsRung s answer → (answer.refusal ≡ ring_cause s) × (Declined answer.refusal → answer.ring ≡ 0)
+  pub cue : (p : ℕ) (answer : Cued) → answer ≡ cued s p
+      → (answer.refusal ≡ cue_cause s p) × ((cue_refusal_number answer.refusal ≡ 0 → ⊥) → (answer.sample ≡ 0) × (answer.key ≡ lit.None))
   -- 02, E1: number 4 never occurs: no refusal has it, so that no call on any set answers it
   pub never4 : ((refusal : Refusal) → refusal_number refusal ≡ 4 → ⊥) × ((refusal : cue_refusal.Refusal) → cue_refusal_number refusal ≡ 4 → ⊥)
   -- 02, E10: nor does number 5
   pub never5 : ((refusal : Refusal) → refusal_number refusal ≡ 5 → ⊥) × ((refusal : cue_refusal.Refusal) → cue_refusal_number refusal ≡ 5 → ⊥)
   -- the writer of replies: where it writes nothing the buffer keeps its contents
-  pub writer : (code s12 : ℕ) (κs : Lfts 1) (out : MutBor (List ℕ))
-      → write-reply.Asked κs (code, (s12, (out, tt)))
-      × ((left : List ℕ) (n : ℕ) → write-reply.Learnt κs (code, (s12, (out, tt))) n (code, (s12, (at_last out left, tt)))
-      → (n ≡ put_length (text_of code s12) (length out.now)) × (n ≡ 0 → left ≡ out.now))
+  pub writer : (code s12 : ℕ) (out left : List ℕ) (n : ℕ) → (n ≡ put_length (text_of code s12) (length out)) × (left ≡ put (text_of code s12) out)
+      → (n ≡ put_length (text_of code s12) (length out)) × (n ≡ 0 → left ≡ out)
   -- the lent oscillator, whose contract is proved by hand and promises these definitions: with phase or step outside [0, TAU) it gives 0.0 and
   -- the record stays
   pub oscillator : (nco : Nco) → phase_in_range nco.phase && phase_in_range nco.step ≡ false → (lent_sample nco ≡ zero) × (lent_nco nco ≡ nco)

@@ -41,6 +41,13 @@ refusal_is Accepted m key = refl
 refusal_is Unsound m key = refl
 refusal_is Position m key = refl
 
+pub cued-answers : (s : Set) (p : ℕ) (answer : Cued) → answer ≡ cued s p
+    → (answer.refusal ≡ cue_cause s p) × ((cue_refusal_number answer.refusal ≡ 0 → ⊥) → (answer.sample ≡ 0) × (answer.key ≡ lit.None))
+unfolding cued
+cued-answers s p answer is =
+    let refused : answer.refusal ≡ cue_cause s p = ap (λ (c : Cued). c.refusal) is ∙ refusal_is (cue_cause s p) _ _ in
+    (refused, λ no. let told = is ∙ declined-cued (cue_cause s p) _ _ (rw refused at no) in (ap (λ (c : Cued). c.sample) told, ap (λ (c : Cued). c.key) told))
+
 module _ (s : Set) (p : ℕ) (answer : Cued) (d : cue.Learnt tt (s, (p, tt)) answer (s, (p, tt))) where
   -- the definition's answer
   pub cue-is : answer ≡ cued s p
@@ -51,8 +58,7 @@ module _ (s : Set) (p : ℕ) (answer : Cued) (d : cue.Learnt tt (s, (p, tt)) ans
   refused = ap (λ (c : Cued). c.refusal) cue-is ∙ refusal_is (cue_cause s p) _ _
 
   pub cue-answers : (answer.refusal ≡ cue_cause s p) × ((cue_refusal_number answer.refusal ≡ 0 → ⊥) → (answer.sample ≡ 0) × (answer.key ≡ lit.None))
-  unfolding cued
-  cue-answers = (refused, λ no. let told = cue-is ∙ declined-cued (cue_cause s p) _ _ (rw refused at no) in (ap (λ (c : Cued). c.sample) told, ap (λ (c : Cued). c.key) told))
+  cue-answers = cued-answers s p answer cue-is
 
   module _ (accepted : cue_refusal_number answer.refusal ≡ 0) where
     pub in-tone : InDigitTone (digits_held s.session) s.rate p answer.sample

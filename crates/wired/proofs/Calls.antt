@@ -5,8 +5,6 @@ use native.Mathlib.Omega.{arith}
 use mathlib.Core.Path.{◌≡◌, refl, sym, ap, subst, ◌∙◌}
 use mathlib.Core.Bool.{Bool, true, false}
 use mathlib.Core.List.{List}
-use contract.Lifetimes.{Lfts}
-use denote.Ref.{Bor, MutBor}
 use lib.Dec.{leb, eqb}
 use lib.Ieee.{Float}
 use lib.ListN.{length}
@@ -46,14 +44,14 @@ use Rattle.wired.proofs.Stands.{stands, beyond, sound-stands, value-stands, read
 
 -- ---- of every chip: a declined call changes nothing
 pub unchanged : (c : Chip) (e : Event) → Did c e → (cause_number e.refusal ≡ 0 → ⊥) → Unchanged c e
-unchanged c e (reading address answer asked learnt) declined =
+unchanged c e (reading address answer learnt) declined =
     let told : answer ≡ uart.read c address = learnt in
     let q = read-declined c address (subst (λ (a : Read). cause_number a.refusal ≡ 0 → ⊥) told declined) in
     record { chip = ap (λ (a : Read). a.chip) told ∙ q.0; lent = refl; value = ap (λ (a : Read). a.value) told ∙ q.1; sent = refl; key = refl }
-unchanged c e (writing address value carrier κs out left answer asked learnt) declined =
-    let told : answer ≡ uart.write c address value carrier (length out.now) = learnt.0 in
-    let wrote : left ≡ uart.outbox c address value out.now = learnt.1 in
-    let q = write-declined c address value carrier out.now (subst (λ (a : Written). cause_number a.refusal ≡ 0 → ⊥) told declined) in
+unchanged c e (writing address value carrier was left answer learnt) declined =
+    let told : answer ≡ uart.write c address value carrier (length was) = learnt.0 in
+    let wrote : left ≡ uart.outbox c address value was = learnt.1 in
+    let q = write-declined c address value carrier was (subst (λ (a : Written). cause_number a.refusal ≡ 0 → ⊥) told declined) in
     record {
       chip = ap (λ (a : Written). a.chip) told ∙ q.0;
       lent = ap inner.outbox_of (wrote ∙ q.2);
@@ -61,14 +59,14 @@ unchanged c e (writing address value carrier κs out left answer asked learnt) d
       sent = ap (λ (a : Written). a.sent) told ∙ q.1;
       key = refl;
     }
-unchanged c e (waiting ns carrier answer asked learnt) declined =
+unchanged c e (waiting ns carrier answer learnt) declined =
     let told : answer ≡ uart.lapsed c ns carrier = learnt in
     let q = lapse-declined c ns carrier (subst (λ (a : Lapse). cause_number a.refusal ≡ 0 → ⊥) told declined) in
     record { chip = ap (λ (a : Lapse). a.chip) told ∙ q; lent = refl; value = refl; sent = refl; key = refl }
-unchanged c e (filling κs out left answer asked learnt) declined =
-    let told : answer ≡ uart.filled c (length out.now) = learnt.0 in
-    let wrote : left ≡ uart.buffer c out.now = learnt.1 in
-    let q = fill-declined c out.now (subst (λ (a : Fill). cause_number a.refusal ≡ 0 → ⊥) told declined) in
+unchanged c e (filling was left answer learnt) declined =
+    let told : answer ≡ uart.filled c (length was) = learnt.0 in
+    let wrote : left ≡ uart.buffer c was = learnt.1 in
+    let q = fill-declined c was (subst (λ (a : Fill). cause_number a.refusal ≡ 0 → ⊥) told declined) in
     record {
       chip = ap (λ (a : Fill). a.chip) told ∙ q.0;
       lent = ap inner.buffer_of (wrote ∙ q.2);
@@ -199,18 +197,18 @@ module _ (r : ℕ) (ok : rate_ok r ≡ true) (s : Set) (t : Table) (h : SinceDia
       }
 
   -- ---- a write to 0: the set's typed call, by whether it is taken
-  module _ (value : ℕ) (carrier : Bool) (κs : Lfts 1) (out : Bor (List ℕ)) (left : List ℕ) (wrote : left ≡ set.outbox s value out.now) where
+  module _ (value : ℕ) (carrier : Bool) (was left : List ℕ) (wrote : left ≡ set.outbox s value was) where
     abbrev n : ℕ
-    n = length out.now
+    n = length was
 
     abbrev typed : Typed
     typed = set.typed s value carrier n
 
     abbrev call : inner.Event
-    call = typed_event value carrier out.now left typed
+    call = typed_event value carrier was left typed
 
     made : claim.Did s call
-    made = claim.typed value carrier κs out left typed tt (refl, wrote)
+    made = claim.typed value carrier was left typed (refl, wrote)
 
     abbrev number : ℕ
     number = declined_with t.book (typing value carrier n)
@@ -237,7 +235,7 @@ module _ (r : ℕ) (ok : rate_ok r ≡ true) (s : Set) (t : Table) (h : SinceDia
     unfolding set.typed
     sent_is = rw same-fed
 
-    left_is : left ≡ either (accepted typed.refusal) (put (sent t.book.processor value) out.now) out.now
+    left_is : left ≡ either (accepted typed.refusal) (put (sent t.book.processor value) was) was
     unfolding set.typed set.outbox
     left_is = wrote ∙ rw at.follows.processor
 
@@ -284,8 +282,8 @@ module _ (r : ℕ) (ok : rate_ok r ≡ true) (s : Set) (t : Table) (h : SinceDia
           inside = (told-inside.unchanged (eqb-false _ 0 is)).set;
         }
 
-    type-step : (answer : Written) → answer ≡ uart.transmitted c carrier typed → Did c (write_event 0 value carrier out.now left answer)
-        → Step r s t (write_event 0 value carrier out.now left answer)
+    type-step : (answer : Written) → answer ≡ uart.transmitted c carrier typed → Did c (write_event 0 value carrier was left answer)
+        → Step r s t (write_event 0 value carrier was left answer)
     type-step answer told did =
         let q = typing-by (eqb number 0) taken_is in
         let later = either (eqb number 0) (typed_on r t value carrier n) t in
@@ -300,10 +298,10 @@ module _ (r : ℕ) (ok : rate_ok r ≡ true) (s : Set) (t : Table) (h : SinceDia
           answered = record {
             number = numbered;
             sound = λ six. told-inside.sound (told-inside.number ∙ sym numbered ∙ six);
-            unchanged = unchanged c (write_event 0 value carrier out.now left answer) did;
+            unchanged = unchanged c (write_event 0 value carrier was left answer) did;
             value = refl;
             sent = ap (λ (a : Written). a.sent) is ∙ q.sent;
-            outbox = left_is ∙ ap (λ (b : Bool). either b (put (sent t.book.processor value) out.now) out.now) taken_is;
+            outbox = left_is ∙ ap (λ (b : Bool). either b (put (sent t.book.processor value) was) was) taken_is;
             key = refl;
             reports = reports-of r _ _ q.since on;
           };
@@ -325,7 +323,7 @@ module _ (r : ℕ) (ok : rate_ok r ≡ true) (s : Set) (t : Table) (h : SinceDia
     wait-step answer told did =
         let is : answer ≡ uart.lapse_taken c carrier (set.lapsed s ns carrier) = told ∙ lapse-is in
         let call = lapsed_event ns carrier (set.lapsed s ns carrier) in
-        let made : claim.Did s call = claim.lapsed ns carrier (set.lapsed s ns carrier) tt refl in
+        let made : claim.Did s call = claim.lapsed ns carrier (set.lapsed s ns carrier) refl in
         let q = step r ok s t.book h at call made in
         let k = entered r t.book (time ns carrier) in
         let reply = (lapsed_by t.book ns carrier).reply in
@@ -363,15 +361,15 @@ module _ (r : ℕ) (ok : rate_ok r ≡ true) (s : Set) (t : Table) (h : SinceDia
   unfolding uart.buffer
   buffer-is was = rw good
 
-  fill_step : (κs : Lfts 1) (out : MutBor (List Float)) (left : List Float) (answer : Fill) → answer ≡ uart.filled c (length out.now) → left ≡ uart.buffer c out.now
-      → Did c (fill_event out.now left answer) → Step r s t (fill_event out.now left answer)
+  fill_step : (was left : List Float) (answer : Fill) → answer ≡ uart.filled c (length was) → left ≡ uart.buffer c was
+      → Did c (fill_event was left answer) → Step r s t (fill_event was left answer)
   unfolding cause_number
-  fill_step κs out left answer told wrote did =
-      let b = length out.now in
+  fill_step was left answer told wrote did =
+      let b = length was in
       let flag = t.registers.flag in
       let is : answer ≡ uart.fill_taken c (set.fill s b) = told ∙ fill_is b in
-      let call = filled_event out.now left (set.fill s b) in
-      let made : claim.Did s call = claim.filled κs out left (set.fill s b) tt (refl, wrote ∙ buffer-is out.now) in
+      let call = filled_event was left (set.fill s b) in
+      let made : claim.Did s call = claim.filled was left (set.fill s b) (refl, wrote ∙ buffer-is was) in
       let q = step r ok s t.book h at call made in
       let k = entered r t.book (book.filling b) in
       let since = claim-answers.since_next r t.book h call in
@@ -387,7 +385,7 @@ module _ (r : ℕ) (ok : rate_ok r ≡ true) (s : Set) (t : Table) (h : SinceDia
         answered = record {
           number = numbered;
           sound = λ six. q.0.sound (q.0.number ∙ sym numbered ∙ six);
-          unchanged = unchanged c (fill_event out.now left answer) did;
+          unchanged = unchanged c (fill_event was left answer) did;
           value = refl;
           sent = refl;
           outbox = refl;
@@ -399,11 +397,11 @@ module _ (r : ℕ) (ok : rate_ok r ≡ true) (s : Set) (t : Table) (h : SinceDia
 
   -- ---- every call
   pub one : (e : Event) → Did c e → Step r s t e
-  one e (reading address answer asked learnt) = read_step address answer learnt (reading address answer asked learnt)
-  one e (writing zero value carrier κs out left answer asked learnt) =
-      type-step value carrier κs out left (learnt.1 ∙ outbox-is 0 value out.now) answer (learnt.0 ∙ write-is 0 value carrier (length out.now))
-      (writing 0 value carrier κs out left answer asked learnt)
-  one e (writing (suc address) value carrier κs out left answer asked learnt) =
-      store_step address value carrier out.now left answer learnt.0 learnt.1 (writing (suc address) value carrier κs out left answer asked learnt)
-  one e (waiting ns carrier answer asked learnt) = wait-step ns carrier answer learnt (waiting ns carrier answer asked learnt)
-  one e (filling κs out left answer asked learnt) = fill_step κs out left answer learnt.0 learnt.1 (filling κs out left answer asked learnt)
+  one e (reading address answer learnt) = read_step address answer learnt (reading address answer learnt)
+  one e (writing zero value carrier was left answer learnt) =
+      type-step value carrier was left (learnt.1 ∙ outbox-is 0 value was) answer (learnt.0 ∙ write-is 0 value carrier (length was))
+      (writing 0 value carrier was left answer learnt)
+  one e (writing (suc address) value carrier was left answer learnt) =
+      store_step address value carrier was left answer learnt.0 learnt.1 (writing (suc address) value carrier was left answer learnt)
+  one e (waiting ns carrier answer learnt) = wait-step ns carrier answer learnt (waiting ns carrier answer learnt)
+  one e (filling was left answer learnt) = fill_step was left answer learnt.0 learnt.1 (filling was left answer learnt)

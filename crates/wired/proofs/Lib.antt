@@ -4,3 +4,4 @@ pub mod Calls
 pub mod Wired
 pub mod Reading
 pub mod Lists
+pub mod Contracts

@@ -6,7 +6,6 @@ use Prim.Native.Nat.{ℕ}
 use mathlib.Core.Path.{◌≡◌, refl, ap, subst, ◌∙◌}
 use mathlib.Core.Bool.{Bool, true, false}
 use mathlib.Core.List.{List, [], ◌∷◌, ◌++◌, map}
-use contract.Lifetimes.{Lfts}
 use lib.Ieee.{Float}
 use lib.ListN.{length, replicate}
 use Rattle.ascii.specs.Ascii.{ascii}
@@ -21,7 +20,6 @@ use Rattle.set.specs.Refusals.{accepted}
 use Rattle.soundness.specs.Sound.{rate_ok}
 use Rattle.set.specs.Set as set
 use Rattle.set.specs.Book.{entry_of, entered}
-use Rattle.claim.proofs.Strings.{lent}
 use Rattle.uart.specs.declared.Chip.{Chip}
 use Rattle.uart.specs.Inbox.{text_of_reply}
 use Rattle.uart.specs.Registers.{identification, line_status, modem_status, with_enable, stored, value_at}
@@ -51,16 +49,16 @@ abbrev pub made : Chip → List Act → List Event
 made c [] = []
 made c (act ∷ acts) = made_by c act ∷ made (made_by c act).chip acts
 
-pub every-list : (κs : Lfts 1) (c : Chip) (acts : List Act) → Trace c (made c acts)
-every-list κs c [] = tt
-every-list κs c (read address ∷ acts) = (reading address (uart.read c address) tt refl, every-list κs (made_by c (read address)).chip acts)
-every-list κs c (write address value carrier was ∷ acts) = (
-  writing address value carrier κs (lent was) (uart.outbox c address value was) (uart.write c address value carrier (length was)) tt (refl, refl),
-  every-list κs (made_by c (write address value carrier was)).chip acts,
+pub every-list : (c : Chip) (acts : List Act) → Trace c (made c acts)
+every-list c [] = tt
+every-list c (read address ∷ acts) = (reading address (uart.read c address) refl, every-list (made_by c (read address)).chip acts)
+every-list c (write address value carrier was ∷ acts) = (
+  writing address value carrier was (uart.outbox c address value was) (uart.write c address value carrier (length was)) (refl, refl),
+  every-list (made_by c (write address value carrier was)).chip acts,
 )
-every-list κs c (wait ns carrier ∷ acts) = (waiting ns carrier (uart.lapsed c ns carrier) tt refl, every-list κs (made_by c (wait ns carrier)).chip acts)
-every-list κs c (fill was ∷ acts) =
-    (filling κs (lent was) (uart.buffer c was) (uart.filled c (length was)) tt (refl, refl), every-list κs (made_by c (fill was)).chip acts)
+every-list c (wait ns carrier ∷ acts) = (waiting ns carrier (uart.lapsed c ns carrier) refl, every-list (made_by c (wait ns carrier)).chip acts)
+every-list c (fill was ∷ acts) =
+    (filling was (uart.buffer c was) (uart.filled c (length was)) (refl, refl), every-list (made_by c (fill was)).chip acts)
 
 -- what the table is told of it
 abbrev pub asked_by : Act → Ask
@@ -115,8 +113,8 @@ unfolding after_read entered entry_of typed_byte command_byte ended pushed upper
 table-reads = refl
 
 pub record Worked : Type 0 where
-  pub trace : Lfts 1 → Trace (uart.started 8000).chip (made (uart.started 8000).chip acts)
-  pub reads : Lfts 1 → map value_of (made (uart.started 8000).chip acts)
+  pub trace : Trace (uart.started 8000).chip (made (uart.started 8000).chip acts)
+  pub reads : map value_of (made (uart.started 8000).chip acts)
       ≡ 0 ∷ 0 ∷ 0 ∷ 0 ∷ 4 ∷ 79 ∷ 75 ∷ 13 ∷ 10 ∷ 2 ∷ 1 ∷ 0 ∷ 0 ∷ 0 ∷ 0 ∷ 0 ∷ 0 ∷ 0 ∷ 184 ∷ 176 ∷ 97 ∷ 4 ∷ 0 ∷ []
 
 -- at 8,000, as creation hands it out
@@ -128,8 +126,8 @@ pub worked : Worked
 worked =
     let c = (uart.started 8000).chip in
     record {
-      trace = λ κs. every-list κs c acts;
-      reads = λ κs.
-          let told : AllAnswered 8000 c (reset 8000) (made c acts) = subst (λ (r : ℕ). AllAnswered r c (reset r) (made c acts)) rate-is (serves 8000 (made c acts) (every-list κs c acts)).answered in
+      trace = every-list c acts;
+      reads =
+          let told : AllAnswered 8000 c (reset 8000) (made c acts) = subst (λ (r : ℕ). AllAnswered r c (reset r) (made c acts)) rate-is (serves 8000 (made c acts) (every-list c acts)).answered in
           values-are 8000 c (reset 8000) (made c acts) told ∙ ap (values_by 8000 (reset 8000)) (asked_of c acts) ∙ table-reads;
     }

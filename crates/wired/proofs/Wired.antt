@@ -9,12 +9,11 @@ use lib.ListN.{length}
 use Rattle.soundness.specs.Sound.{rate_ok}
 use Rattle.set.specs.declared.Set.{Set}
 use Rattle.set.specs.Refusals.{cause_of_creation, accepted, if_accepted}
-use Rattle.set.specs.Sound.{sound}
 use Rattle.set.specs.Set as set
 use Rattle.set.specs.Book.{blank}
 use Rattle.set.specs.Event as inner
 use Rattle.claim.specs.Trace as claim
-use Rattle.claim.specs.Claim.{SinceDial, not_called, AllAnswered}
+use Rattle.claim.specs.Claim.{SinceDial, not_called}
 use Rattle.claim.specs.Expand as expand
 use Rattle.claim.specs.Strings.{Claim, History, single, called}
 use Rattle.claim.proofs.Claim.{ListInvariant, fresh-invariant}

@@ -1,9 +1,6 @@
 -- 02, E13: "every list of register calls with lapses and fills between". Each call is made on the chip that the one before returned, and did what its own
--- contract promises: `Asked` and `Learnt` are made by the toolchain from the function's `requires` and `ensures`. And the calls of the set inside that
--- such a list makes.
+-- contract promises. And the calls of the set inside that such a list makes.
 use Rattle.std.specs.Prelude.{ℕ, zero, suc, ◌≡◌, Bool, List, [], ◌∷◌, Float, length}
-use contract.Lifetimes.{Lfts}
-use denote.Ref.{MutBor, at_last}
 use Rattle.keys.specs.declared.Lit.{Lit}
 use Rattle.keys.specs.declared.Lit.TheVariants as lit
 use Rattle.set.specs.Set as set
@@ -16,10 +13,7 @@ use Rattle.uart.specs.declared.Read.{Read}
 use Rattle.uart.specs.declared.Written.{Written}
 use Rattle.uart.specs.declared.Lapse.{Lapse}
 use Rattle.uart.specs.declared.Fill.{Fill}
-use Rattle.uart.proofs.Chip.read.Reads as read
-use Rattle.uart.proofs.Chip.write.Reads as write
-use Rattle.uart.proofs.Chip.lapse.Reads as lapse
-use Rattle.uart.proofs.Chip.fill.Reads as fill
+use Rattle.uart.specs.Chip as uart
 use Rattle.wired.specs.Table.{Ask, to_read, to_write, to_wait, to_fill}
 
 -- a call that was made: as the table is told of it, its answer, and of what was lent to it what it held before and what it was left with. A call that
@@ -68,24 +62,20 @@ fill_event was left a =
       left = buffer_of left;
     }
 
--- the event is that of a call on the chip c, which was allowed, and did what its contract promises
+-- the event is that of a call on the chip c, which did what its contract promises
 pub data Did (c : Chip) : Event → Type 0 where
   reading : (address : ℕ) (answer : Read)
-      → read.Asked tt (c, (address, tt))
-      → read.Learnt tt (c, (address, tt)) answer (c, (address, tt))
+      → answer ≡ uart.read c address
       → Did c (read_event address answer)
-  writing : (address value : ℕ) (carrier : Bool) (κs : Lfts 1) (out : MutBor (List ℕ)) (left : List ℕ) (answer : Written)
-      → write.Asked κs (c, (address, (value, (carrier, (out, tt)))))
-      → write.Learnt κs (c, (address, (value, (carrier, (out, tt))))) answer (c, (address, (value, (carrier, (at_last out left, tt)))))
-      → Did c (write_event address value carrier out.now left answer)
+  writing : (address value : ℕ) (carrier : Bool) (was left : List ℕ) (answer : Written)
+      → (answer ≡ uart.write c address value carrier (length was)) × (left ≡ uart.outbox c address value was)
+      → Did c (write_event address value carrier was left answer)
   waiting : (ns : ℕ) (carrier : Bool) (answer : Lapse)
-      → lapse.Asked tt (c, (ns, (carrier, tt)))
-      → lapse.Learnt tt (c, (ns, (carrier, tt))) answer (c, (ns, (carrier, tt)))
+      → answer ≡ uart.lapsed c ns carrier
       → Did c (wait_event ns carrier answer)
-  filling : (κs : Lfts 1) (out : MutBor (List Float)) (left : List Float) (answer : Fill)
-      → fill.Asked κs (c, (out, tt))
-      → fill.Learnt κs (c, (out, tt)) answer (c, (at_last out left, tt))
-      → Did c (fill_event out.now left answer)
+  filling : (was left : List Float) (answer : Fill)
+      → (answer ≡ uart.filled c (length was)) × (left ≡ uart.buffer c was)
+      → Did c (fill_event was left answer)
 
 abbrev pub chip_of : Event → Chip
 chip_of e = e.chip
