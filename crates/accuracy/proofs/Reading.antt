@@ -5,7 +5,9 @@ use mathlib.Core.Path.{◌≡◌, refl}
 use mathlib.Core.Bool.{true}
 use mathlib.Core.List.{List, [], ◌∷◌, ◌++◌}
 use contract.Lifetimes.{Lfts}
-use denote.Ref.{MutBor, at_last}
+use denote.Bor.{Bor}
+use denote.MutBor.{MutBor}
+use denote.Ref.{at_last}
 use lib.Dec.{T, leb→le, le→leb}
 use lib.Ieee.{Float, le, binary32, of_bits}
 use lib.ListN.{length}
@@ -28,7 +30,7 @@ use Rattle.accuracy.proofs.read_fresh.Reads as read-fresh
 use Rattle.accuracy.proofs.process_out.Reads as process-out
 
 -- "for every f64", "at all rates and digits": no call asks anything
-pub asks_nothing : (p q : Float) (s : Set) (rate : ℕ) (κ : Lfts 1) (κs : Lfts 2) (digits : MutBor (List ℕ)) (out : MutBor (List Float))
+pub asks_nothing : (p q : Float) (s : Set) (rate : ℕ) (κ : Lfts 1) (κs : Lfts 2) (digits : Bor (List ℕ)) (out : MutBor (List Float))
     → near-sin.Asked tt (p, tt)
     × two-sines.Asked tt (p, (q, tt))
     × read-fresh.Asked κs (digits, (rate, (out, tt)))
@@ -64,7 +66,7 @@ module _ (p q r : Float) (d : two-sines.Learnt tt (p, (q, tt)) r (p, (q, tt))) w
   pub mixed-in-level : InLevel r
   mixed-in-level = d.1
 
-module _ (κs : Lfts 2) (digits : MutBor (List ℕ)) (rate : ℕ) (out : MutBor (List Float)) (left : List Float) (w : overture.Filled)
+module _ (κs : Lfts 2) (digits : Bor (List ℕ)) (rate : ℕ) (out : MutBor (List Float)) (left : List Float) (w : overture.Filled)
     (d : read-fresh.Learnt κs (digits, (rate, (out, tt))) w (digits, (rate, (at_last out left, tt)))) where
   pub is-the-overture : left ≡ samples (length out.now) (fresh digits.now rate) digits.now rate
   is-the-overture = d.0

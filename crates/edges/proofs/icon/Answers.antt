@@ -1,6 +1,5 @@
 -- `edges::icon` meets its contract: by soundness. Assumes nothing.
 use Rattle.edges.specs.Icon.{shown}
-use borrow.Author.Rules.{rules}
 use Rattle.edges.proofs.icon.Goals as goal
 
 pub returns-then-sound : goal.returns-then-sound

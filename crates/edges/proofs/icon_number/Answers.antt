@@ -1,5 +1,4 @@
 -- `edges::icon_number` meets its contract: the state's number tells whether the line is up. Assumes nothing.
-use borrow.Author.Rules.{rules}
 use borrow.Author.Tests.{eq-eqb, ne_eqb}
 use Rattle.edges.specs.Icon.{icon_if, icon_of}
 use Rattle.edges.proofs.icon_number.Goals as goal

@@ -1,11 +1,9 @@
 -- `edges::search` meets its contract: the invariant is `Between`, kept by either answer about the middle.
 -- The measure is what lies between the two ends. Assumes nothing.
-use Prim.Native.Nat.{◌-◌}
-use mathlib.Core.Path.{◌≡◌, sym, ◌∙◌}
+use mathlib.Core.Path.{sym, ◌∙◌}
 use native.Mathlib.Omega.{arith}
 use borrow.Author.Rules.{rules}
-use lib.ListN.{length}
-use Rattle.edges.proofs.Halving.{Between, whole, lower-half, upper-half, found}
+use Rattle.edges.proofs.Halving.{whole, lower-half, upper-half, found}
 use Rattle.edges.proofs.search.Goals as goal
 
 pub loop-high-init : goal.loop-high-init

@@ -2,7 +2,6 @@
 use native.Mathlib.Nat.{sub-zero}
 use lib.Seq.{length-take-le}
 use Rattle.edges.specs.Icon.{icon_after}
-use borrow.Author.Rules.{rules}
 use Rattle.edges.proofs.shows.Goals as goal
 
 pub returns : goal.returns

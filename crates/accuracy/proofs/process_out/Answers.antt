@@ -4,7 +4,6 @@ use mathlib.Core.List.{List}
 use mathlib.Core.Path.{ap, sym, ◌∙◌}
 use mir.Val.{Val}
 use denote.Shadow.{shadow}
-use borrow.Author.Rules.{rules}
 use Rattle.stage.specs.declared.StageState.{StageState}
 use Rattle.stage.specs.declared.StageState.TheVariants.{OffHook, DialTone, Dialling, Ringback, Ci, Ansam, CmJm, Cj, Training, Connected}
 use Rattle.stage.specs.contracts.StageState as state
@@ -12,8 +11,8 @@ use Rattle.set.specs.Refusals.{accepted}
 use Rattle.set.specs.Set.{fill}
 use Rattle.accuracy.proofs.Overture.{InWord}
 use Rattle.accuracy.proofs.Fill.{fill-level, up-level}
-use Rattle.accuracy.proofs.process_out.Statement.{statement}
-use Rattle.accuracy.proofs.process_out.Tie as tie
+use Rattle.accuracy.proofs.process_out.Goals as goal
+use Rattle.accuracy.proofs.process_out.Goals.{Start}
 
 -- what owning a stage's state tells
 in-word : (s : StageState) (v : List Val) → shadow ((state.the_field).row.own_val ((state.the_type).to s) v) → InWord s
@@ -29,31 +28,12 @@ in-word (Training f) v h = tt
 in-word Connected v h = tt
 
 -- of the set's fields the third is its session, and of that one's the fifth its stage's state
-held : (c : tie.Start) → InWord c.args.set.session.stage
-held c = in-word c.args.set.session.stage _ c.well-formed.0.1.1.1.1.0.1.1.1.1.1.1.0
+held : (c : Start) → InWord c.args.set.session.stage
+held c = in-word c.args.set.session.stage _ c.well_formed.0.1.1.1.1.0.1.1.1.1.1.1.0
 
-process-out-requires : tie.Need-process-out-requires
-process-out-requires c κs = search rules
-
-same_length : tie.Need-same-length
-same_length c = search rules
-
-returns : tie.Need-returns
+pub returns : goal.returns
 unfolding fill
-returns c =
-    let (answer, left) = c.before.before.process-out.ensures in
-    let start = c.before.before.before.before.before in
-    let s = start.args.set in
-    let was = start.args.out.now in (
-      answer,
-      (
-        left,
-        (
-          λ dialling taken. rw left (fill-level s was (ap (λ f. accepted f.refusal) (sym answer) ∙ taken) (held start) dialling),
-          λ up taken. rw left (up-level s was (ap (λ f. accepted f.refusal) (sym answer) ∙ taken) up),
-        ),
-      ),
-    )
-
-pub process-out-spec : {M : Type 1} → statement M
-process-out-spec = tie.close (tie.spec process-out-requires same_length returns)
+returns c = let answer = c.process_out.ensures.value in
+    let left = c.process_out.ensures.out_after in
+    let s = c.args.set in
+    let was = c.args.out.now in record { value = answer; out_after = left; all_in_level = λ dialling taken. rw left (fill-level s was (ap (λ f. accepted f.refusal) (sym answer) ∙ taken) (held (goal.at.returns c).Start) dialling); all_in_level_2 = λ up taken. rw left (up-level s was (ap (λ f. accepted f.refusal) (sym answer) ∙ taken) up) }
