@@ -6,7 +6,7 @@ rt:
 
 # A call to listen to, in call.wav, and a table of its stages. The program is proved before it is built.
 call: rt
-	@mkdir -p target && { rt check call >target/call.log 2>&1 || { cat target/call.log; exit 1; }; }
+	@mkdir -p target && { tools/build call >target/call.log 2>&1 || { cat target/call.log; exit 1; }; }
 	@bin/call
 	@echo "call.wav is written; what the toolchain said is in target/call.log"
 
@@ -18,7 +18,7 @@ show: rt
 DIGITS = 5551234
 RATE = 48000
 cues: rt
-	@mkdir -p target/bin && { rt staticlib gibbonplate >target/cues.log 2>&1 || { cat target/cues.log; exit 1; }; }
+	@mkdir -p target/bin && { tools/build gibbonplate >target/cues.log 2>&1 || { cat target/cues.log; exit 1; }; }
 	@$(CC) -std=c99 -O2 -Wall -Wextra -Iinclude examples/cues.c target/staticlib/libgibbonplate.a -o target/bin/cues
 	@target/bin/cues '$(DIGITS)' '$(RATE)'
 
@@ -33,7 +33,7 @@ oracle:
 # What `call` and `earpiece` write, held against the Rust or a second model and played to decoders of keys and of bits; and what the programs
 # say where something fails.
 listen: rt
-	rt check call wall tap letters bill serial earpiece
+	tools/build call wall tap letters bill serial earpiece
 	tests/call
 	tests/decode
 	tests/sender

@@ -28,7 +28,7 @@
  *   - One call at a time on one set, and each call gets the set as the one before left it. Two sets
  *     have nothing to do with each other. Assigning a set copies it.
  *   - A bool is 0 or 1, as every C expression of the type is.
- *   - The program is for x86-64, and is linked with libgibbonplate.a, which `rt staticlib gibbonplate`
+ *   - The program is for x86-64, and is linked with libgibbonplate.a, which `tools/build gibbonplate`
  *     writes to target/staticlib.
  */
 #ifndef GIBBONPLATE_H
