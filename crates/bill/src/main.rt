@@ -124,15 +124,16 @@ fn ended(output: &impl Print, errors: &impl Print, desk: Desk, come: Input, out:
     match come.error {
         None => {
             let at = page::put_answer(out, desk.at, line.asked());
-            flushed(output, errors, Desk { at, ..desk }, out);
+            let d = flushed(output, errors, Desk { at, ..desk }, out);
+            Desk { open: false, ..d }
         }
         Some(why) => {
             console::stream::fail(errors, b"bill: standard input cannot be read", why);
+            Desk {
+                open: false,
+                ..desk
+            }
         }
-    }
-    Desk {
-        open: false,
-        ..desk
     }
 }
 
