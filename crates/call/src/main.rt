@@ -61,7 +61,13 @@ fn with_file(rt: &(impl Env + Files + Print), errors: &impl Print, digits: &[u8]
 }
 
 // A word that is missing is no text, as an empty one is.
-fn with_text(rt: &(impl Env + Files + Print), errors: &impl Print, digits: &[u8], rate: u32, path: &[u8]) {
+fn with_text(
+    rt: &(impl Env + Files + Print),
+    errors: &impl Print,
+    digits: &[u8],
+    rate: u32,
+    path: &[u8],
+) {
     let mut message = [0u8; 4096];
     match rt.arg(4, &mut message) {
         Ok(count) => call(rt, errors, digits, rate, path, &message[..count]),
@@ -75,7 +81,14 @@ fn with_text(rt: &(impl Env + Files + Print), errors: &impl Print, digits: &[u8]
 }
 
 // The fills are made twice: a WAV file's header, which comes first, has to know how many samples follow.
-fn call(rt: &(impl Files + Print), errors: &impl Print, digits: &[u8], rate: u32, path: &[u8], message: &[u8]) {
+fn call(
+    rt: &(impl Files + Print),
+    errors: &impl Print,
+    digits: &[u8],
+    rate: u32,
+    path: &[u8],
+    message: &[u8],
+) {
     let mut samples = [0.0f32; 4096];
     let mut firsts = [0u32; 11];
     let dialled = play::dial(rate, digits);
