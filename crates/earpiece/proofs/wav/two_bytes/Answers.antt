@@ -7,10 +7,8 @@ use lib.Signed.{mag}
 use mir.Syntax.{w16, w32}
 use mir.Val.{SFits, to_z, of_z}
 use mir.ValLaws.{to_z-of_z}
-use borrow.Author.Rules.{rules}
 use borrow.Author.Tests.{le-ltb}
-use Rattle.earpiece.proofs.wav.two_bytes.Statement.{statement}
-use Rattle.earpiece.proofs.wav.two_bytes.Tie as tie
+use Rattle.earpiece.proofs.wav.two_bytes.Goals as goal
 
 record Up (z : ℤ) : Type 0 where
   at : ℕ
@@ -37,20 +35,14 @@ module _ (z : ℤ) (f : SFits w16 z) where
   lifted : to_z w32 (of_z w32 (to_z w32 (of_z w32 (to_z w16 (of_z w16 z))) +ℤ pos 32768)) ≡ pos (up z f.sfits).at
   lifted = to_z-of_z w32 _ sum_fits ∙ half
 
-cast-wide : tie.Need-overflow-cast-wide
-cast-wide c = wide c.args.sample c.ranges.sample
+pub overflow_cast-wide : goal.overflow_cast-wide
+overflow_cast-wide c = wide c.args.sample c.ranges.sample
 
-add-up : tie.Need-overflow-add-up
-add-up c = sum_fits c.args.sample c.ranges.sample
+pub overflow_add-up : goal.overflow_add-up
+overflow_add-up c = sum_fits c.args.sample c.ranges.sample
 
-cast-up : tie.Need-overflow-cast-up
-cast-up c = rw (lifted c.args.sample c.ranges.sample) (tt, record { fits = omega (arith, (up c.args.sample c.ranges.sample.sfits).most) })
+pub overflow_cast-up : goal.overflow_cast-up
+overflow_cast-up c = rw (lifted c.args.sample c.ranges.sample) (tt, record { fits = omega (arith, (up c.args.sample c.ranges.sample.sfits).most) })
 
-add-result : tie.Need-overflow-add-result
-add-result c = rw (lifted c.args.sample c.ranges.sample) (record { fits = omega (arith, (up c.args.sample c.ranges.sample.sfits).most) })
-
-returns : tie.Need-returns
-returns c = search rules
-
-pub two-bytes-spec : {M : Type 1} → statement M
-two-bytes-spec = tie.close (tie.spec cast-wide add-up cast-up add-result returns)
+pub overflow_add-result : goal.overflow_add-result
+overflow_add-result c = rw (lifted c.args.sample c.ranges.sample) (record { fits = omega (arith, (up c.args.sample c.ranges.sample.sfits).most) })
