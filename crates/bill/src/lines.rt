@@ -4,7 +4,7 @@ ghost use Rattle.std.specs.Prelude.{◌≡◌, ◌+◌, ◌*◌, min};
 ghost use Rattle.bill.specs.Lines.{largest, fresh_line, with_digit, spoiled, with_comma, next_of, asked_of};
 
 // What the bytes of a line so far come to.
-#[derive(Drop)]
+#[derive(Clone, Copy)]
 pub struct Line {
     // the number before the comma, and the present one, each at most the largest of 64 bits
     before: u64,
@@ -16,7 +16,7 @@ pub struct Line {
     other: bool,
 }
 
-#[derive(Drop)]
+#[derive(Clone, Copy)]
 pub enum Asked {
     // what a call of so many milliseconds costs
     Time(u64),

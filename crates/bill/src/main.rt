@@ -4,14 +4,15 @@
 
 ghost use Rattle.std.specs.Prelude.{◌≡◌, false};
 
-use libc::STDERR_FILENO;
+use console::stream::Input;
 use lines::Line;
+use std::io::Read;
 
 mod lines;
 mod page;
 
 // What runs between two bytes of the input.
-#[derive(Drop)]
+#[derive(Clone, Copy)]
 struct Desk {
     line: Line,
     // how much of the page is written
@@ -20,18 +21,19 @@ struct Desk {
     open: bool,
 }
 
-fn main() {
-    if os::arg_count() < 2 {
-        run();
+fn main(rt: HostRuntime) {
+    let errors = rt.stderr();
+    if console::stream::has_word(&rt, 1) {
+        let _ = Print::write_all(
+            &errors,
+            b"bill: it takes no argument; its lines come on standard input\n",
+        );
         return;
     }
-    io::write_all(
-        STDERR_FILENO,
-        b"bill: it takes no argument; its lines come on standard input\n",
-    );
+    run(&mut rt.stdin(), &rt, &errors);
 }
 
-fn run() {
+fn run(input: &mut impl Read, output: &impl Print, errors: &impl Print) {
     let mut out = [0u8; 65536];
     let line = Line::new();
     let desk = Desk {
@@ -39,49 +41,69 @@ fn run() {
         at: 0,
         open: true,
     };
-    read_all(desk, &mut out);
+    read_all(input, output, errors, desk, &mut out);
 }
 
 // A proved loop has to end, and nothing says that the input does: the loop counts down from a number
 // that no run uses up.
-fn read_all(desk: Desk, out: &mut [u8]) -> Desk {
+fn read_all(
+    input: &mut impl Read,
+    output: &impl Print,
+    errors: &impl Print,
+    desk: Desk,
+    out: &mut [u8],
+) -> Desk {
     let mut d = desk;
     let mut left = u64::MAX;
     while left > 0 && d.open {
-        d = read_some(d, out);
+        d = read_some(input, output, errors, d, out);
         left -= 1;
     }
     d
 }
 
 // One read, its lines, and their answers.
-fn read_some(desk: Desk, out: &mut [u8]) -> Desk {
+fn read_some(
+    input: &mut impl Read,
+    output: &impl Print,
+    errors: &impl Print,
+    desk: Desk,
+    out: &mut [u8],
+) -> Desk {
     let mut buffer = [0u8; 4096];
-    let input = console::stream::read(&mut buffer);
-    let got = input.count;
+    let come = console::stream::read(input, &mut buffer);
+    let got = come.count;
     if got == 0 {
-        return ended(desk, input.good, out);
+        return ended(output, errors, desk, come, out);
     }
-    let d = take_all(desk, &buffer[..got], out);
-    flushed(d, out)
+    let d = take_all(output, errors, desk, &buffer[..got], out);
+    flushed(output, errors, d, out)
 }
 
-fn take_all(desk: Desk, bytes: &[u8], out: &mut [u8]) -> Desk {
+fn take_all(
+    output: &impl Print,
+    errors: &impl Print,
+    desk: Desk,
+    bytes: &[u8],
+    out: &mut [u8],
+) -> Desk {
     let mut d = desk;
     let mut i: usize = 0;
     while i < bytes.len() {
-        d = take(d, bytes[i], out);
+        d = take(output, errors, d, bytes[i], out);
         i += 1;
     }
     d
 }
 
-fn take(desk: Desk, byte: u8, out: &mut [u8]) -> Desk {
+fn take(output: &impl Print, errors: &impl Print, desk: Desk, byte: u8, out: &mut [u8]) -> Desk {
     let line = desk.line;
     if byte == b'\n' {
         let at = page::put_answer(out, desk.at, line.asked());
         let first = Line::new();
         return settled(
+            output,
+            errors,
             Desk {
                 line: first,
                 at,
@@ -95,35 +117,39 @@ fn take(desk: Desk, byte: u8, out: &mut [u8]) -> Desk {
 }
 
 // No more input came: it has ended, or it cannot be read. Then a last line may be without its line feed.
-fn ended(desk: Desk, good: bool, out: &mut [u8]) -> Desk
+fn ended(output: &impl Print, errors: &impl Print, desk: Desk, come: Input, out: &mut [u8]) -> Desk
     ensures { result.open ≡ false }
 {
     let line = desk.line;
-    if good {
-        let at = page::put_answer(out, desk.at, line.asked());
-        let d = flushed(Desk { at, ..desk }, out);
-        return Desk { open: false, ..d };
-    }
-    os::fail(b"bill: standard input cannot be read");
-    Desk {
-        open: false,
-        ..desk
+    match come.error {
+        None => {
+            let at = page::put_answer(out, desk.at, line.asked());
+            let d = flushed(output, errors, Desk { at, ..desk }, out);
+            Desk { open: false, ..d }
+        }
+        Some(why) => {
+            console::stream::fail(errors, b"bill: standard input cannot be read", why);
+            Desk {
+                open: false,
+                ..desk
+            }
+        }
     }
 }
 
 // The page is written out while it still has room for any answer.
-fn settled(desk: Desk, out: &[u8]) -> Desk {
+fn settled(output: &impl Print, errors: &impl Print, desk: Desk, out: &[u8]) -> Desk {
     if desk.at > 60000 {
-        return flushed(desk, out);
+        return flushed(output, errors, desk, out);
     }
     desk
 }
 
 // Writes the page out, and starts it again. Once that has failed nothing more is written.
-fn flushed(desk: Desk, out: &[u8]) -> Desk
+fn flushed(output: &impl Print, errors: &impl Print, desk: Desk, out: &[u8]) -> Desk
     ensures { result.at ≡ 0 }
 {
-    let open = desk.open && written(out, desk.at);
+    let open = desk.open && written(output, errors, out, desk.at);
     Desk {
         at: 0,
         open,
@@ -131,10 +157,12 @@ fn flushed(desk: Desk, out: &[u8]) -> Desk
     }
 }
 
-fn written(out: &[u8], at: usize) -> bool {
-    if console::stream::flush(out, at) {
-        return true;
+fn written(output: &impl Print, errors: &impl Print, out: &[u8], at: usize) -> bool {
+    match console::stream::flush(output, out, at) {
+        Ok(()) => true,
+        Err(why) => {
+            console::stream::fail(errors, b"bill: standard output cannot be written", why);
+            false
+        }
     }
-    os::fail(b"bill: standard output cannot be written");
-    false
 }

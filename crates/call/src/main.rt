@@ -9,73 +9,86 @@ mod stages;
 mod table;
 mod talk;
 
+use console::stream::has_word;
 use recording::words;
+use std::env::{Env, FillError};
+use std::rt::Files;
 
-fn main() {
-    let count = os::arg_count();
-    if count < 2 {
-        call(b"5551234", 48000, b"call.wav", b"");
+fn main(rt: HostRuntime) {
+    let errors = rt.stderr();
+    if !has_word(&rt, 1) {
+        call(&rt, &errors, b"5551234", 48000, b"call.wav", b"");
         return;
     }
-    if (count == 4) | (count == 5) {
-        with_digits();
+    if has_word(&rt, 3) && !has_word(&rt, 5) {
+        with_digits(&rt, &errors);
         return;
     }
     words::say(
+        &errors,
         b"call",
         b"it takes DIGITS RATE FILE or DIGITS RATE FILE TEXT, or nothing for 5551234 48000 call.wav",
     );
 }
 
-fn with_digits() {
+fn with_digits(rt: &(impl Env + Files + Print), errors: &impl Print) {
     let mut word = [0u8; 76];
-    let count = os::arg(1, &mut word);
-    if os::errno() == 0 {
-        with_rate(&word[..count]);
-        return;
+    match rt.arg(1, &mut word) {
+        Ok(count) => with_rate(rt, errors, &word[..count]),
+        Err(_) => words::long_digits(errors, b"call"),
     }
-    words::long_digits(b"call");
 }
 
-fn with_rate(digits: &[u8]) {
+fn with_rate(rt: &(impl Env + Files + Print), errors: &impl Print, digits: &[u8]) {
     if words::all_dialled(digits) {
-        let rate = words::rate();
+        let rate = words::rate(rt);
         if soundness::rate_ok(rate) {
-            with_file(digits, rate);
+            with_file(rt, errors, digits, rate);
             return;
         }
-        words::no_rate(b"call");
+        words::no_rate(errors, b"call");
         return;
     }
-    words::no_key(b"call");
+    words::no_key(errors, b"call");
 }
 
-fn with_file(digits: &[u8], rate: u32) {
-    let mut path = io::buffer();
-    let count = os::arg(3, &mut path);
-    if os::errno() == 0 {
-        with_text(digits, rate, &path[..count]);
-        return;
+fn with_file(rt: &(impl Env + Files + Print), errors: &impl Print, digits: &[u8], rate: u32) {
+    let mut path = [0u8; 4096];
+    match rt.arg(3, &mut path) {
+        Ok(count) => with_text(rt, errors, digits, rate, &path[..count]),
+        Err(_) => words::long_path(errors, b"call"),
     }
-    words::long_path(b"call");
 }
 
 // A word that is missing is no text, as an empty one is.
-fn with_text(digits: &[u8], rate: u32, path: &[u8]) {
-    let mut message = io::buffer();
-    let count = os::arg(4, &mut message);
-    if os::errno() == libc::ENAMETOOLONG {
-        words::say(
+fn with_text(
+    rt: &(impl Env + Files + Print),
+    errors: &impl Print,
+    digits: &[u8],
+    rate: u32,
+    path: &[u8],
+) {
+    let mut message = [0u8; 4096];
+    match rt.arg(4, &mut message) {
+        Ok(count) => call(rt, errors, digits, rate, path, &message[..count]),
+        Err(FillError::TooLong) => words::say(
+            errors,
             b"call",
             b"TEXT has more than 4096 bytes; it takes up to 4096",
-        );
-        return;
+        ),
+        Err(FillError::NotPresent) => call(rt, errors, digits, rate, path, b""),
     }
-    call(digits, rate, path, &message[..count]);
 }
 
 // The fills are made twice: a WAV file's header, which comes first, has to know how many samples follow.
-fn call(digits: &[u8], rate: u32, path: &[u8], message: &[u8]) {
+fn call(
+    rt: &(impl Files + Print),
+    errors: &impl Print,
+    digits: &[u8],
+    rate: u32,
+    path: &[u8],
+    message: &[u8],
+) {
     let mut samples = [0.0f32; 4096];
     let mut firsts = [0u32; 11];
     let dialled = play::dial(rate, digits);
@@ -84,8 +97,8 @@ fn call(digits: &[u8], rate: u32, path: &[u8], message: &[u8]) {
     let sent = talk::length(up, end.fills, message, &mut samples);
     let total = table::between(1, firsts[10]);
     let all = with_sent(total, up.m(), sent);
-    if file::write(path, dialled, message, all, &mut samples) {
-        table::print(&firsts, dialled, up.m(), sent);
+    if file::write(rt, errors, path, dialled, message, all, &mut samples) {
+        table::print(rt, errors, &firsts, dialled, up.m(), sent);
     }
 }
 

@@ -4,6 +4,8 @@ ghost use Rattle.std.specs.Prelude.{◌≤◌};
 use crate::talk;
 use crate::talk::Talk;
 use set::Set;
+use std::io;
+use std::io::{ErrorKind, Write};
 
 // A card that changes its buffer length during the show; the samples of each fill, over and over.
 const LENGTHS: [usize; 16] = [
@@ -11,13 +13,13 @@ const LENGTHS: [usize; 16] = [
 ];
 
 // A recording under way.
-#[derive(Drop)]
+#[derive(Clone, Copy)]
 struct Recording {
     talk: Talk,
     // samples that are still to be written
     left: u32,
-    // every write so far has gone well
-    good: bool,
+    // every write so far has gone well, or why one has not
+    good: io::Result<()>,
 }
 
 pub fn length(fill: u32) -> usize {
@@ -56,10 +58,16 @@ pub fn is_dialling(set: Set) -> bool {
 
 // Makes the fills from the dial line on, and writes their first `total` samples to a file, behind the
 // header.
-pub fn record(file: i32, set: Set, message: &[u8], total: u32, samples: &mut [f32]) -> bool {
+pub fn record(
+    file: &mut impl Write,
+    set: Set,
+    message: &[u8],
+    total: u32,
+    samples: &mut [f32],
+) -> io::Result<()> {
     let mut bytes = [0u8; 16384];
     let header = samples::wav::header(total, set.rate());
-    let good = io::write_all(file, &header);
+    let good = file.write_all(&header);
     let recording = Recording {
         talk: talk::silent(set),
         left: total,
@@ -71,7 +79,7 @@ pub fn record(file: i32, set: Set, message: &[u8], total: u32, samples: &mut [f3
 
 // A proved loop has to end: no call has as many fills as this one allows.
 fn record_all(
-    file: i32,
+    file: &mut impl Write,
     recording: Recording,
     message: &[u8],
     samples: &mut [f32],
@@ -87,11 +95,11 @@ fn record_all(
 }
 
 fn goes_on(recording: Recording) -> bool {
-    recording.good & (recording.left > 0)
+    recording.good.is_ok() & (recording.left > 0)
 }
 
 fn record_fill(
-    file: i32,
+    file: &mut impl Write,
     recording: Recording,
     message: &[u8],
     n: usize,
@@ -107,7 +115,7 @@ fn record_fill(
 
 // Samples past the total are not written.
 fn record_part(
-    file: i32,
+    file: &mut impl Write,
     recording: Recording,
     message: &[u8],
     samples: &mut [f32],
@@ -144,10 +152,10 @@ pub fn larger(a: usize, b: usize) -> usize
     a
 }
 
-fn write(file: i32, samples: &[f32], bytes: &mut [u8]) -> bool {
+fn write(file: &mut impl Write, samples: &[f32], bytes: &mut [u8]) -> io::Result<()> {
     let end = samples::put_samples(bytes, 0, samples);
     if end <= bytes.len() {
-        return io::write_all(file, &bytes[..end]);
+        return file.write_all(&bytes[..end]);
     }
-    false
+    Err(io::Error::from(ErrorKind::InvalidInput))
 }

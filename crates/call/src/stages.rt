@@ -3,7 +3,7 @@ use crate::play;
 use set::Set;
 
 // The set whose line is up, and how many fills it took.
-#[derive(Drop)]
+#[derive(Clone, Copy)]
 pub struct Up {
     pub set: Set,
     pub fills: u32,

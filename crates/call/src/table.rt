@@ -4,7 +4,14 @@ use crate::play;
 use keys::Lit;
 use set::Set;
 
-pub fn print(firsts: &[u32; 11], dialled: Set, up: u32, sent: u32) {
+pub fn print(
+    output: &impl Print,
+    errors: &impl Print,
+    firsts: &[u32; 11],
+    dialled: Set,
+    up: u32,
+    sent: u32,
+) {
     let mut page = [0u8; 8192];
     let rate = dialled.rate();
     let mut k = text::put(
@@ -16,10 +23,9 @@ pub fn print(firsts: &[u32; 11], dialled: Set, up: u32, sent: u32) {
     k = put_digits(&mut page, k, dialled);
     k = put_end(&mut page, k, between(1, firsts[10]), rate, up);
     k = put_sent(&mut page, k, up, sent, rate);
-    if console::stream::flush(&page, k) {
-        return;
+    if let Err(why) = console::stream::flush(output, &page, k) {
+        console::stream::fail(errors, b"call: standard output cannot be written", why);
     }
-    os::fail(b"call: standard output cannot be written");
 }
 
 // How many samples there are from one to before another.

@@ -4,7 +4,7 @@ use crate::play;
 use set::Set;
 
 // A set, how many bytes of the text were queued in it, and how many samples of mark are to come first.
-#[derive(Drop)]
+#[derive(Clone, Copy)]
 pub struct Talk {
     pub set: Set,
     pub queued: usize,

@@ -8,29 +8,29 @@ use crate::tried;
 use math::TAU;
 use nco::{Nco, Stepped};
 
-pub fn oscillators() {
-    twice(0.5, 0.25);
-    one(b"lent at phase 0", 0.0, 0.25);
-    one(b"lent below TAU", 6.283185307179585, 0.25);
-    one(b"lent at TAU", TAU, 0.25);
-    one(b"lent below 0", -0.5, 0.25);
-    one(b"lent at no number", 0.0 / 0.0, 0.25);
-    one(b"lent with step 0", 0.5, 0.0);
-    one(b"lent with step TAU", 0.5, TAU);
-    one(b"lent with step below 0", 0.5, -0.25);
-    one(b"lent with no number for a step", 0.5, 0.0 / 0.0);
+pub fn oscillators(output: &impl Print) {
+    twice(output, 0.5, 0.25);
+    one(output, b"lent at phase 0", 0.0, 0.25);
+    one(output, b"lent below TAU", 6.283185307179585, 0.25);
+    one(output, b"lent at TAU", TAU, 0.25);
+    one(output, b"lent below 0", -0.5, 0.25);
+    one(output, b"lent at no number", 0.0 / 0.0, 0.25);
+    one(output, b"lent with step 0", 0.5, 0.0);
+    one(output, b"lent with step TAU", 0.5, TAU);
+    one(output, b"lent with step below 0", 0.5, -0.25);
+    one(output, b"lent with no number for a step", 0.5, 0.0 / 0.0);
 }
 
 // The record is lent again as the first call left it.
-fn twice(phase: f64, step: f64) {
+fn twice(output: &impl Print, phase: f64, step: f64) {
     let first = stepped(at_8000(phase, step));
     let second = stepped(first.nco);
-    line(b"lent", first);
-    line(b"lent again", second);
+    line(output, b"lent", first);
+    line(output, b"lent again", second);
 }
 
-fn one(name: &[u8], phase: f64, step: f64) {
-    line(name, stepped(at_8000(phase, step)));
+fn one(output: &impl Print, name: &[u8], phase: f64, step: f64) {
+    line(output, name, stepped(at_8000(phase, step)));
 }
 
 fn at_8000(phase: f64, step: f64) -> Nco {
@@ -50,7 +50,7 @@ fn stepped(nco: Nco) -> Stepped
     Stepped { sample, nco: lent }
 }
 
-fn line(name: &[u8], after: Stepped) {
+fn line(output: &impl Print, name: &[u8], after: Stepped) {
     let mut page = [0u8; 128];
     let nco = after.nco;
     let mut k = text::put(&mut page, 0, name);
@@ -58,7 +58,7 @@ fn line(name: &[u8], after: Stepped) {
     k = put_float(&mut page, k, b" phase", nco.phase);
     k = put_float(&mut page, k, b" step", nco.step);
     k = put_float(&mut page, k, b" rate", nco.rate);
-    tried::end(&mut page, k);
+    tried::end(output, &mut page, k);
 }
 
 fn put_float(page: &mut [u8], at: usize, label: &[u8], number: f64) -> usize {

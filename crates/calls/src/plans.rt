@@ -1,22 +1,22 @@
 // The length of a call before the call: its refusal, the count of each stage, of 0 and of 10, and T.
 use crate::tried;
 
-pub fn plans() {
-    one(b"", 8000);
-    one(b"12", 8000);
-    one(b"123", 8000);
-    one(b"5551234", 48000);
-    one(b"(ab) cd-ef", 44100);
-    one(&[b'7'; 76], 192000);
-    one(&[b'-'; 76], 192000);
-    one(b"1", 7999);
-    one(b"1", 192001);
-    one(&[b'7'; 77], 192000);
-    one(&[b'-'; 77], 8000);
-    one(&[b'7'; 77], 7999);
+pub fn plans(output: &impl Print) {
+    one(output, b"", 8000);
+    one(output, b"12", 8000);
+    one(output, b"123", 8000);
+    one(output, b"5551234", 48000);
+    one(output, b"(ab) cd-ef", 44100);
+    one(output, &[b'7'; 76], 192000);
+    one(output, &[b'-'; 76], 192000);
+    one(output, b"1", 7999);
+    one(output, b"1", 192001);
+    one(output, &[b'7'; 77], 192000);
+    one(output, &[b'-'; 77], 8000);
+    one(output, &[b'7'; 77], 7999);
 }
 
-fn one(digits: &[u8], rate: u32) {
+fn one(output: &impl Print, digits: &[u8], rate: u32) {
     let mut page = [0u8; 256];
     let refusal = plan::plan_refusal(digits, rate);
     let mut k = tried::put_number(&mut page, 0, b"plan of ", digits.len() as u64);
@@ -40,7 +40,7 @@ fn one(digits: &[u8], rate: u32) {
         b" T ",
         plan::total_samples(digits, rate) as u64,
     );
-    tried::end(&mut page, k);
+    tried::end(output, &mut page, k);
 }
 
 fn put_stage(page: &mut [u8], at: usize, digits: &[u8], rate: u32, stage: u32) -> usize {

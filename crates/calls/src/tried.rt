@@ -5,7 +5,7 @@ use keys::Lit;
 use set::Set;
 
 // All calls on a set.
-pub fn calls(name: &[u8], set: Set) {
+pub fn calls(output: &impl Print, name: &[u8], set: Set) {
     let mut page = [0u8; 512];
     let mut k = text::put(&mut page, 0, name);
     k = put_typed(&mut page, k, set, b'1', 8);
@@ -17,11 +17,11 @@ pub fn calls(name: &[u8], set: Set) {
     k = put_readers(&mut page, k, set);
     k = put_number(&mut page, k, b" s12 ", set.s12() as u64);
     k = put_cue(&mut page, k, set, 0);
-    end(&mut page, k);
+    end(output, &mut page, k);
 }
 
 // The buffer's first `n` bytes are lent.
-pub(crate) fn reply(code: u8, s12: u8, n: usize)
+pub(crate) fn reply(output: &impl Print, code: u8, s12: u8, n: usize)
     requires { n ≤ 28 }
 {
     let mut page = [0u8; 128];
@@ -33,17 +33,17 @@ pub(crate) fn reply(code: u8, s12: u8, n: usize)
     k = put_number(&mut page, k, b" room ", n as u64);
     k = put_number(&mut page, k, b" length ", length as u64);
     k = put_buffer(&mut page, k, &buffer);
-    end(&mut page, k);
+    end(output, &mut page, k);
 }
 
-pub fn cue(name: &[u8], set: Set, position: u32) {
+pub fn cue(output: &impl Print, name: &[u8], set: Set, position: u32) {
     let mut page = [0u8; 128];
     let mut k = text::put(&mut page, 0, name);
     k = put_cue(&mut page, k, set, position);
-    end(&mut page, k);
+    end(output, &mut page, k);
 }
 
-pub fn digits(name: &[u8], set: Set) {
+pub fn digits(output: &impl Print, name: &[u8], set: Set) {
     let mut page = [0u8; 128];
     let digits = set.digits();
     let keys = digits.keys;
@@ -52,10 +52,10 @@ pub fn digits(name: &[u8], set: Set) {
     k = put_number(&mut page, k, b" key ", wide(keys[0]));
     k = put_number(&mut page, k, b" key ", wide(keys[1]));
     k = put_number(&mut page, k, b" key ", wide(keys[2]));
-    end(&mut page, k);
+    end(output, &mut page, k);
 }
 
-pub fn made(rate: u32) {
+pub fn made(output: &impl Print, rate: u32) {
     let mut page = [0u8; 128];
     let made = Set::new(rate);
     let set = made.set;
@@ -63,31 +63,31 @@ pub fn made(rate: u32) {
     let mut k = put_number(&mut page, 0, b"rate ", rate as u64);
     k = put_number(&mut page, k, b" made ", refusal.number() as u64);
     k = put_number(&mut page, k, b" at ", set.rate() as u64);
-    end(&mut page, k);
+    end(output, &mut page, k);
 }
 
-pub(crate) fn typed(name: &[u8], set: Set, byte: u8, n: usize)
+pub(crate) fn typed(output: &impl Print, name: &[u8], set: Set, byte: u8, n: usize)
     requires { n ≤ 8 }
 {
     let mut page = [0u8; 128];
     let mut k = text::put(&mut page, 0, name);
     k = put_typed(&mut page, k, set, byte, n);
-    end(&mut page, k);
+    end(output, &mut page, k);
 }
 
 // The outbox's first `n` bytes and the code buffer's first `m` are lent.
-pub(crate) fn string(name: &[u8], set: Set, string: &[u8], n: usize, m: usize)
+pub(crate) fn string(output: &impl Print, name: &[u8], set: Set, string: &[u8], n: usize, m: usize)
     requires n_bound { n ≤ 16 }
     requires m_bound { m ≤ 12 }
 {
     let mut page = [0u8; 256];
     let mut k = text::put(&mut page, 0, name);
     k = put_string(&mut page, k, set, string, n, m);
-    end(&mut page, k);
+    end(output, &mut page, k);
 }
 
 // A fill of two samples, and what the sender and the bytes that wait have become.
-pub fn sender(name: &[u8], set: Set) {
+pub fn sender(output: &impl Print, name: &[u8], set: Set) {
     let mut page = [0u8; 256];
     let answer = set.queue_byte(b'Q');
     let queued = answer.set;
@@ -95,7 +95,7 @@ pub fn sender(name: &[u8], set: Set) {
     k = put_sending(&mut page, k, set);
     k = text::put(&mut page, k, b", Q queued:");
     k = put_sending(&mut page, k, queued);
-    end(&mut page, k);
+    end(output, &mut page, k);
 }
 
 fn put_sending(page: &mut [u8], at: usize, set: Set) -> usize {
@@ -122,7 +122,7 @@ fn put_frame(page: &mut [u8], at: usize, set: Set) -> usize {
 }
 
 // A fill of 65,537 samples: the hash is that of the buffer as it was.
-pub fn fill_long(set: Set) {
+pub fn fill_long(output: &impl Print, set: Set) {
     let mut page = [0u8; 128];
     let mut samples = [1.23f32; 65537];
     let before = samples::fnv::hash_samples(samples::fnv::OFFSET, &samples);
@@ -134,7 +134,7 @@ pub fn fill_long(set: Set) {
     k = put_bits(&mut page, k, before, 16);
     k = put_bits(&mut page, k, after, 16);
     k = put_key(&mut page, k, key);
-    end(&mut page, k);
+    end(output, &mut page, k);
 }
 
 fn put_typed(page: &mut [u8], at: usize, set: Set, byte: u8, n: usize) -> usize
@@ -286,7 +286,7 @@ fn wide(byte: u8) -> u64 {
     byte as u64
 }
 
-pub fn end(page: &mut [u8], at: usize) {
+pub fn end(output: &impl Print, page: &mut [u8], at: usize) {
     let k = text::put_byte(page, at, b'\n');
-    console::stream::flush(page, k);
+    let _ = console::stream::flush(output, page, k);
 }

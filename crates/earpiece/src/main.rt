@@ -5,121 +5,126 @@ mod wav;
 
 ghost use Rattle.std.specs.Prelude.{◌≤◌};
 
+use console::stream::has_word;
 use recording::words;
+use std::env::Env;
+use std::io;
+use std::io::Write;
+use std::rt::Files;
 
-fn main() {
-    let count = os::arg_count();
-    if count < 2 {
-        write(b"5551234", 8000, b"earpiece.wav");
+fn main(rt: HostRuntime) {
+    let errors = rt.stderr();
+    if !has_word(&rt, 1) {
+        write(&rt, &errors, b"5551234", 8000, b"earpiece.wav");
         return;
     }
-    if count == 4 {
-        with_digits();
+    if has_word(&rt, 3) && !has_word(&rt, 4) {
+        with_digits(&rt, &errors);
         return;
     }
     words::say(
+        &errors,
         b"earpiece",
         b"it takes DIGITS RATE FILE, or nothing for 5551234 8000 earpiece.wav",
     );
 }
 
-fn with_digits() {
+fn with_digits(rt: &(impl Env + Files), errors: &impl Print) {
     let mut word = [0u8; 76];
-    let count = os::arg(1, &mut word);
-    if os::errno() == 0 {
-        with_rate(&word[..count]);
-        return;
+    match rt.arg(1, &mut word) {
+        Ok(count) => with_rate(rt, errors, &word[..count]),
+        Err(_) => words::long_digits(errors, b"earpiece"),
     }
-    words::long_digits(b"earpiece");
 }
 
-fn with_rate(digits: &[u8]) {
+fn with_rate(rt: &(impl Env + Files), errors: &impl Print, digits: &[u8]) {
     if words::all_dialled(digits) {
-        let rate = words::rate();
+        let rate = words::rate(rt);
         let refusal = plan::plan_refusal(digits, rate);
         if refusal.number() == 0 {
-            with_file(digits, rate);
+            with_file(rt, errors, digits, rate);
             return;
         }
-        words::no_rate(b"earpiece");
+        words::no_rate(errors, b"earpiece");
         return;
     }
-    words::no_key(b"earpiece");
+    words::no_key(errors, b"earpiece");
 }
 
-fn with_file(digits: &[u8], rate: u32) {
-    let mut path = io::buffer();
-    let count = os::arg(3, &mut path);
-    if os::errno() == 0 {
-        write(digits, rate, &path[..count]);
-        return;
+fn with_file(rt: &(impl Env + Files), errors: &impl Print, digits: &[u8], rate: u32) {
+    let mut path = [0u8; 4096];
+    match rt.arg(3, &mut path) {
+        Ok(count) => write(rt, errors, digits, rate, &path[..count]),
+        Err(_) => words::long_path(errors, b"earpiece"),
     }
-    words::long_path(b"earpiece");
 }
 
-fn write(digits: &[u8], rate: u32, path: &[u8]) {
-    let recording = recording::begin(b"earpiece", path);
-    if recording.file < 0 {
-        return;
-    }
-    let good = record(recording.file, digits, rate);
-    recording::finish(b"earpiece", path, recording, good);
+fn write(rt: &impl Files, errors: &impl Print, digits: &[u8], rate: u32, path: &[u8]) {
+    let mut recording = recording::begin(rt, errors, b"earpiece", path);
+    let good = match &mut recording.file {
+        Some(file) => record(file, digits, rate),
+        None => return,
+    };
+    recording::finish(rt, errors, b"earpiece", path, recording, good);
 }
 
 // Writes the header and, in buffers, the T samples behind it.
-fn record(file: i32, digits: &[u8], rate: u32) -> bool {
+fn record(file: &mut impl Write, digits: &[u8], rate: u32) -> io::Result<()> {
     let mut samples = [0i16; 4096];
     let mut bytes = [0u8; 8192];
     let total = plan::total_samples(digits, rate);
     let header = wav::header(total, rate);
-    io::write_all(file, &header) && record_all(file, digits, rate, total, &mut samples, &mut bytes)
+    file.write_all(&header)?;
+    record_all(file, digits, rate, total, &mut samples, &mut bytes)
 }
 
 fn record_all(
-    file: i32,
+    file: &mut impl Write,
     digits: &[u8],
     rate: u32,
     total: u32,
     samples: &mut [i16],
     bytes: &mut [u8],
-) -> bool {
+) -> io::Result<()> {
     let mut pass: u32 = 0;
     while pass < total {
         let count = least(samples.len(), total - pass);
         if count == 0 {
-            return false;
+            return Err(refused());
         }
-        if record_part(file, digits, rate, pass, count as usize, samples, bytes) {
-            pass += count;
-        } else {
-            return false;
-        }
+        record_part(file, digits, rate, pass, count as usize, samples, bytes)?;
+        pass += count;
     }
-    true
+    Ok(())
 }
 
 fn record_part(
-    file: i32,
+    file: &mut impl Write,
     digits: &[u8],
     rate: u32,
     pass: u32,
     count: usize,
     samples: &mut [i16],
     bytes: &mut [u8],
-) -> bool {
+) -> io::Result<()> {
     let none: usize = 0;
     if count > samples.len() {
-        return false;
+        return Err(refused());
     }
     let refusal = handset::earpiece(digits, rate, pass as u64, &mut samples[none..count]);
     if refusal > 0 {
-        return false;
+        return Err(refused());
     }
     let end = wav::put_samples(bytes, &samples[none..count]);
     if end <= bytes.len() {
-        return io::write_all(file, &bytes[none..end]);
+        return file.write_all(&bytes[none..end]);
     }
-    false
+    Err(refused())
+}
+
+// The samples of a call that its plan takes are refused none.
+fn refused() -> io::Error {
+    io::Error::other("its samples were refused")
 }
 
 fn least(length: usize, left: u32) -> u32

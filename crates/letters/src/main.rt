@@ -3,65 +3,81 @@
 
 ghost use Rattle.std.specs.Prelude.{◌≡◌, false};
 
+use console::stream::Input;
 use deframe::Deframer;
-use libc::STDERR_FILENO;
+use std::io::Read;
 
 // What runs between two reads of the input.
-#[derive(Drop)]
+#[derive(Clone, Copy)]
 struct Letters {
     reader: Deframer,
     // the input has not ended, and nothing has failed
     open: bool,
 }
 
-fn main() {
-    if os::arg_count() < 2 {
-        let reader = Deframer::new();
-        read_all(Letters { reader, open: true });
+fn main(rt: HostRuntime) {
+    let errors = rt.stderr();
+    if console::stream::has_word(&rt, 1) {
+        let _ = Print::write_all(
+            &errors,
+            b"letters: it takes no argument; its bits come on standard input\n",
+        );
         return;
     }
-    io::write_all(
-        STDERR_FILENO,
-        b"letters: it takes no argument; its bits come on standard input\n",
+    let reader = Deframer::new();
+    read_all(
+        &mut rt.stdin(),
+        &rt,
+        &errors,
+        Letters { reader, open: true },
     );
 }
 
 // A proved loop has to end, and nothing says that the input does: the loop counts down from a number
 // that no run uses up.
-fn read_all(l: Letters) -> Letters {
+fn read_all(
+    input: &mut impl Read,
+    output: &impl Print,
+    errors: &impl Print,
+    l: Letters,
+) -> Letters {
     let mut s = l;
     let mut left = u64::MAX;
     while left > 0 && s.open {
-        s = read_some(s);
+        s = read_some(input, output, errors, s);
         left -= 1;
     }
     s
 }
 
 // One read, its bits, and their bytes.
-fn read_some(l: Letters) -> Letters {
+fn read_some(
+    input: &mut impl Read,
+    output: &impl Print,
+    errors: &impl Print,
+    l: Letters,
+) -> Letters {
     let mut buffer = [0u8; 4096];
-    let input = console::stream::read(&mut buffer);
-    let got = input.count;
+    let come = console::stream::read(input, &mut buffer);
+    let got = come.count;
     if got == 0 {
-        return ended(l, input.good);
+        return ended(errors, l, come);
     }
-    spelled(l, &buffer[..got])
+    spelled(output, errors, l, &buffer[..got])
 }
 
 // No more input came: it has ended, or it cannot be read.
-fn ended(l: Letters, good: bool) -> Letters
+fn ended(errors: &impl Print, l: Letters, come: Input) -> Letters
     ensures { result.open ≡ false }
 {
-    if good {
-        return Letters { open: false, ..l };
+    if let Some(why) = come.error {
+        console::stream::fail(errors, b"letters: standard input cannot be read", why);
     }
-    os::fail(b"letters: standard input cannot be read");
     Letters { open: false, ..l }
 }
 
 // No bit gives more than one byte, so there is room for all.
-fn spelled(l: Letters, text: &[u8]) -> Letters {
+fn spelled(output: &impl Print, errors: &impl Print, l: Letters, text: &[u8]) -> Letters {
     let mut bits = [0u8; 4096];
     let mut out = [0u8; 4096];
     let from: usize = 0;
@@ -72,19 +88,21 @@ fn spelled(l: Letters, text: &[u8]) -> Letters {
     }
     let reading = reader.read(&bits[from..count], &mut out);
     let place = reading.place;
-    let open = written(&out, reading.given);
+    let open = written(output, errors, &out, reading.given);
     Letters {
         reader: place,
         open,
     }
 }
 
-fn written(out: &[u8], given: usize) -> bool {
-    if console::stream::flush(out, given) {
-        return true;
+fn written(output: &impl Print, errors: &impl Print, out: &[u8], given: usize) -> bool {
+    match console::stream::flush(output, out, given) {
+        Ok(()) => true,
+        Err(why) => {
+            console::stream::fail(errors, b"letters: standard output cannot be written", why);
+            false
+        }
     }
-    os::fail(b"letters: standard output cannot be written");
-    false
 }
 
 // The characters 0 and 1 of a text as bits at the buffer's front, and how many they are; others are passed over.

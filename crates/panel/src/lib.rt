@@ -8,10 +8,13 @@ ghost use Rattle.text.specs.Text.{page_of, add_of};
 ghost use Rattle.panel.specs.Wall.{read_after, shown_after, kept_after, lit_after, line_of};
 
 use console::lines::{Call, Parser, Pushed};
+use console::stream::Input;
 use deframe::Deframer;
 use keys::Lit;
 use set::Set;
 use shown::Shown;
+use std::io;
+use std::io::Read;
 
 mod bits;
 mod keep;
@@ -40,11 +43,25 @@ struct Panel {
 }
 
 // The whole program.
-pub fn run(extended: bool, bits: bool) {
+pub fn run(
+    input: &mut impl Read,
+    output: &impl Print,
+    errors: &impl Print,
+    extended: bool,
+    bits: bool,
+) {
     let mut samples = [0.0f32; 70000];
     let mut string = [0u8; 300];
     let mut out = [0u8; 65536];
-    read_all(fresh(extended, bits), &mut string, &mut samples, &mut out);
+    read_all(
+        input,
+        output,
+        errors,
+        fresh(extended, bits),
+        &mut string,
+        &mut samples,
+        &mut out,
+    );
 }
 
 // 01: before any R line the rate is 8000.
@@ -68,29 +85,47 @@ fn fresh(extended: bool, bits: bool) -> Panel {
 
 // A proved loop has to end, and nothing says that the input does: the loop counts down from a number
 // that no run uses up.
-fn read_all(p: Panel, string: &mut [u8], samples: &mut [f32], out: &mut [u8]) -> Panel {
+fn read_all(
+    input: &mut impl Read,
+    output: &impl Print,
+    errors: &impl Print,
+    p: Panel,
+    string: &mut [u8],
+    samples: &mut [f32],
+    out: &mut [u8],
+) -> Panel {
     let mut s = p;
     let mut left = u64::MAX;
     while left > 0 && s.open {
-        s = read_some(s, string, samples, out);
+        s = read_some(input, output, errors, s, string, samples, out);
         left -= 1;
     }
     s
 }
 
 // One read, its lines, and their answers.
-fn read_some(p: Panel, string: &mut [u8], samples: &mut [f32], out: &mut [u8]) -> Panel {
+fn read_some(
+    input: &mut impl Read,
+    output: &impl Print,
+    errors: &impl Print,
+    p: Panel,
+    string: &mut [u8],
+    samples: &mut [f32],
+    out: &mut [u8],
+) -> Panel {
     let mut buffer = [0u8; 4096];
-    let input = console::stream::read(&mut buffer);
-    let got = input.count;
+    let come = console::stream::read(input, &mut buffer);
+    let got = come.count;
     if got == 0 {
-        return ended(p, input.good, string, samples, out);
+        return ended(output, errors, p, come, string, samples, out);
     }
-    let s = take_all(p, &buffer[..got], string, samples, out);
-    flushed(s, out)
+    let s = take_all(output, errors, p, &buffer[..got], string, samples, out);
+    flushed(output, errors, s, out)
 }
 
 fn take_all(
+    output: &impl Print,
+    errors: &impl Print,
     p: Panel,
     bytes: &[u8],
     string: &mut [u8],
@@ -100,13 +135,21 @@ fn take_all(
     let mut s = p;
     let mut i: usize = 0;
     while i < bytes.len() {
-        s = take(s, bytes[i], string, samples, out);
+        s = take(output, errors, s, bytes[i], string, samples, out);
         i += 1;
     }
     s
 }
 
-fn take(p: Panel, byte: u8, string: &mut [u8], samples: &mut [f32], out: &mut [u8]) -> Panel {
+fn take(
+    output: &impl Print,
+    errors: &impl Print,
+    p: Panel,
+    byte: u8,
+    string: &mut [u8],
+    samples: &mut [f32],
+    out: &mut [u8],
+) -> Panel {
     let parser = p.parser;
     let extended = p.extended;
     match parser.push(byte) {
@@ -114,72 +157,91 @@ fn take(p: Panel, byte: u8, string: &mut [u8], samples: &mut [f32], out: &mut [u
         Pushed::Line(call) => {
             let s = perform(p, call, string, samples, out);
             let first = Parser::new(extended);
-            settled(Panel { parser: first, ..s }, out)
+            settled(output, errors, Panel { parser: first, ..s }, out)
         }
     }
 }
 
 // No more input came: it has ended, or it cannot be read.
-fn ended(p: Panel, good: bool, string: &mut [u8], samples: &mut [f32], out: &mut [u8]) -> Panel
+fn ended(
+    output: &impl Print,
+    errors: &impl Print,
+    p: Panel,
+    come: Input,
+    string: &mut [u8],
+    samples: &mut [f32],
+    out: &mut [u8],
+) -> Panel
     ensures { result.open ≡ false }
 {
-    if good {
-        return closed(p, string, samples, out);
+    match come.error {
+        None => closed(output, errors, p, string, samples, out),
+        Some(why) => {
+            cannot_read(errors, p.bits, why);
+            Panel { open: false, ..p }
+        }
     }
-    cannot_read(p.bits);
-    Panel { open: false, ..p }
 }
 
 // What the input's end leaves: a last line without its line feed.
-fn closed(p: Panel, string: &mut [u8], samples: &mut [f32], out: &mut [u8]) -> Panel
+fn closed(
+    output: &impl Print,
+    errors: &impl Print,
+    p: Panel,
+    string: &mut [u8],
+    samples: &mut [f32],
+    out: &mut [u8],
+) -> Panel
     ensures { result.open ≡ false }
 {
     let parser = p.parser;
     let call = parser.finish();
     let s = perform(p, call, string, samples, out);
-    let t = flushed(s, out);
+    let t = flushed(output, errors, s, out);
     Panel { open: false, ..t }
 }
 
 // The page is written out while it still has room for any answer.
-fn settled(p: Panel, out: &[u8]) -> Panel {
+fn settled(output: &impl Print, errors: &impl Print, p: Panel, out: &[u8]) -> Panel {
     if p.at > 60000 {
-        return flushed(p, out);
+        return flushed(output, errors, p, out);
     }
     p
 }
 
 // Writes the page out, and starts it again. Once that has failed nothing more is written.
-fn flushed(p: Panel, out: &[u8]) -> Panel
+fn flushed(output: &impl Print, errors: &impl Print, p: Panel, out: &[u8]) -> Panel
     ensures { result.at ≡ 0 }
 {
-    let open = p.open && written(p.bits, out, p.at);
+    let open = p.open && written(output, errors, p.bits, out, p.at);
     Panel { at: 0, open, ..p }
 }
 
-fn written(bits: bool, out: &[u8], at: usize) -> bool {
-    if console::stream::flush(out, at) {
-        return true;
+fn written(output: &impl Print, errors: &impl Print, bits: bool, out: &[u8], at: usize) -> bool {
+    match console::stream::flush(output, out, at) {
+        Ok(()) => true,
+        Err(why) => {
+            cannot_write(errors, bits, why);
+            false
+        }
     }
-    cannot_write(bits);
-    false
 }
 
 // A line on standard error, with the system's word for why.
-fn cannot_read(bits: bool) {
+fn cannot_read(errors: &impl Print, bits: bool, why: io::Error) {
     if bits {
-        os::fail(b"tap: standard input cannot be read");
+        console::stream::fail(errors, b"tap: standard input cannot be read", why);
         return;
     }
-    os::fail(b"wall: standard input cannot be read");
+    console::stream::fail(errors, b"wall: standard input cannot be read", why);
 }
 
-fn cannot_write(bits: bool) {
+fn cannot_write(errors: &impl Print, bits: bool, why: io::Error) {
     if bits {
-        os::fail(b"tap: standard output cannot be written");
+        console::stream::fail(errors, b"tap: standard output cannot be written", why);
         return;
     }
-    os::fail(b"wall: standard output cannot be written");
+    console::stream::fail(errors, b"wall: standard output cannot be written", why);
 }
 
 // What a line leaves: the set after its call, the string, the reader and the key that are kept, and, without `tap`'s second line, 01's line on the page.

@@ -3,90 +3,161 @@
 // written where they are.
 #![tactic(auto)]
 
-ghost use Rattle.libc.specs.Io.{Ended};
+use std::fs::{OpenFile, OpenOptions};
+use std::io::{ErrorKind, Seek, SeekFrom};
+use std::rt::Files;
+use std::{fs, io};
 
 pub mod words;
 
-// A file that is being written, in its place or beside it. Below 0 it could not be opened, and that has been said.
+// A file that is being written, in its place or beside it. Where there is none it could not be opened, and that has been said.
 #[derive(Drop)]
-pub struct Recording {
-    pub file: i32,
+pub struct Recording<F> {
+    pub file: Option<F>,
     beside: bool,
 }
 
 // Opens the file of a path for writing.
-pub fn begin(program: &[u8], path: &[u8]) -> Recording {
-    if is_link(path) {
-        return in_place(program, path, os::open_overwrite(path));
+pub fn begin<R: Files>(
+    rt: &R,
+    errors: &impl Print,
+    program: &[u8],
+    path: &[u8],
+) -> Recording<R::File> {
+    if is_link(rt, path) {
+        return in_place(errors, program, path, open_overwrite(rt, path));
     }
-    let file = os::open_append(path);
-    if file < 0 {
-        return missing(program, path, os::errno());
+    match open_append(rt, path) {
+        Ok(file) => opened(rt, errors, program, path, file),
+        Err(why) => missing(rt, errors, program, path, why),
     }
-    if is_regular(file) {
-        libc::close(file);
-        return beside(program, path);
-    }
-    in_place(program, path, file)
 }
 
-// Ends it, and answers whether it stands in its place: `good` says whether all was written.
-pub fn finish(program: &[u8], path: &[u8], recording: Recording, good: bool) -> bool {
-    let file = recording.file;
-    if recording.beside {
-        return put_in_place(program, path, synced(file, good));
+// Ends it, and answers whether it stands in its place: `good` says whether all was written, or why not.
+pub fn finish<R: Files>(
+    rt: &R,
+    errors: &impl Print,
+    program: &[u8],
+    path: &[u8],
+    recording: Recording<R::File>,
+    good: io::Result<()>,
+) -> bool {
+    let Recording { file, beside } = recording;
+    match file {
+        Some(file) => {
+            if beside {
+                return put_in_place(rt, errors, program, path, synced(file, good));
+            }
+            written(errors, program, path, good)
+        }
+        None => false,
     }
-    if good {
-        libc::close(file);
-        return true;
+}
+
+fn written(errors: &impl Print, program: &[u8], path: &[u8], good: io::Result<()>) -> bool {
+    match good {
+        Ok(()) => true,
+        Err(why) => {
+            words::cannot_write(errors, program, path, why);
+            false
+        }
     }
-    words::cannot_write(program, path);
-    libc::close(file);
-    false
 }
 
 // Whether the path names a symbolic link.
-fn is_link(path: &[u8]) -> bool {
-    let name = ended(path);
-    let mut target = [0u8; 1];
-    libc::readlink(&name, &mut target) >= 0
+fn is_link(rt: &impl Files, path: &[u8]) -> bool {
+    match seen(rt, path) {
+        Ok(found) => found.is_symlink(),
+        Err(_) => false,
+    }
 }
 
-// The path as C takes it, with a 0 at its end.
-fn ended(path: &[u8]) -> [u8; 4096]
-    ensures { Ended result }
-{
-    let mut name = io::buffer();
-    text::put(&mut name, 0, path);
-    name[4095] = 0;
-    name
+fn seen(rt: &impl Files, path: &[u8]) -> io::Result<fs::Metadata> {
+    fs::symlink_metadata(rt, named(path)?)
+}
+
+// The path as std takes it, which opens no other.
+fn named(path: &[u8]) -> io::Result<&str> {
+    match std::str::from_utf8(path) {
+        Ok(name) => Ok(name),
+        Err(_) => Err(io::Error::new(ErrorKind::InvalidFilename, "it is not UTF-8")),
+    }
+}
+
+fn open_overwrite<R: Files>(rt: &R, path: &[u8]) -> io::Result<R::File> {
+    fs::create(rt, named(path)?)
+}
+
+fn open_append<R: Files>(rt: &R, path: &[u8]) -> io::Result<R::File> {
+    OpenOptions::new().append(true).open(rt, named(path)?)
+}
+
+fn open_new<R: Files>(rt: &R, path: &[u8]) -> io::Result<R::File> {
+    OpenOptions::new()
+        .write(true)
+        .create_new(true)
+        .open(rt, named(path)?)
+}
+
+fn opened<R: Files>(
+    rt: &R,
+    errors: &impl Print,
+    program: &[u8],
+    path: &[u8],
+    mut file: R::File,
+) -> Recording<R::File> {
+    if is_regular(&mut file) {
+        drop(file);
+        return beside(rt, errors, program, path);
+    }
+    in_place(errors, program, path, Ok(file))
 }
 
 // Only in a regular file is there a place past the end: a pipe has no places, a device has no such one.
-fn is_regular(file: i32) -> bool {
-    libc::lseek(file, 1, libc::SEEK_END) > 0
+fn is_regular(file: &mut impl Seek) -> bool {
+    match file.seek(SeekFrom::End(1)) {
+        Ok(place) => place > 0,
+        Err(_) => false,
+    }
 }
 
-fn in_place(program: &[u8], path: &[u8], file: i32) -> Recording {
-    if file < 0 {
-        words::cannot_write(program, path);
-    }
-    Recording {
-        file,
-        beside: false,
+fn in_place<F>(
+    errors: &impl Print,
+    program: &[u8],
+    path: &[u8],
+    opened: io::Result<F>,
+) -> Recording<F> {
+    match opened {
+        Ok(file) => Recording {
+            file: Some(file),
+            beside: false,
+        },
+        Err(why) => {
+            words::cannot_write(errors, program, path, why);
+            Recording {
+                file: None,
+                beside: false,
+            }
+        }
     }
 }
 
 // A path that cannot be opened: that of a file to be made, or none.
-fn missing(program: &[u8], path: &[u8], error: i32) -> Recording {
-    if (error == libc::ENOENT) & (path.len() > 0) {
-        return beside(program, path);
+fn missing<R: Files>(
+    rt: &R,
+    errors: &impl Print,
+    program: &[u8],
+    path: &[u8],
+    why: io::Error,
+) -> Recording<R::File> {
+    if (why.kind() == ErrorKind::NotFound) & (path.len() > 0) {
+        return beside(rt, errors, program, path);
     }
-    in_place(program, path, -1)
+    in_place(errors, program, path, Err(why))
 }
 
 // FILE.part, in the first bytes.
-#[derive(Drop)]
+#[derive(Clone, Copy)]
 struct Part {
     name: [u8; 4104],
     len: usize,
@@ -99,52 +170,99 @@ fn part_of(path: &[u8]) -> Part {
     Part { name, len }
 }
 
-fn beside(program: &[u8], path: &[u8]) -> Recording {
+fn beside<R: Files>(
+    rt: &R,
+    errors: &impl Print,
+    program: &[u8],
+    path: &[u8],
+) -> Recording<R::File> {
     let part = part_of(path);
     let name = part.name;
     let len = part.len;
     if len <= name.len() {
-        return create(program, &name[..len]);
+        return create(rt, errors, program, &name[..len]);
     }
-    in_place(program, path, -1)
+    in_place(errors, program, path, Err(too_long()))
 }
 
-fn create(program: &[u8], part: &[u8]) -> Recording {
-    let file = os::create(part);
-    if file < 0 {
-        words::cannot_write_first(program, part);
+// What the system says of such a path.
+fn too_long() -> io::Error {
+    io::Error::from(ErrorKind::InvalidFilename)
+}
+
+fn create<R: Files>(
+    rt: &R,
+    errors: &impl Print,
+    program: &[u8],
+    part: &[u8],
+) -> Recording<R::File> {
+    match open_new(rt, part) {
+        Ok(file) => Recording {
+            file: Some(file),
+            beside: true,
+        },
+        Err(why) => {
+            words::cannot_write_first(errors, program, part, why);
+            Recording {
+                file: None,
+                beside: true,
+            }
+        }
     }
-    Recording { file, beside: true }
 }
 
 // A disk may find out only when all is to be on it that it has no room.
-fn synced(file: i32, good: bool) -> bool {
-    let whole = good && libc::fsync(file) == 0;
-    libc::close(file);
-    whole
+fn synced(file: impl OpenFile + Drop, good: io::Result<()>) -> io::Result<()> {
+    good?;
+    file.sync_all()
 }
 
-fn put_in_place(program: &[u8], path: &[u8], whole: bool) -> bool {
+fn put_in_place(
+    rt: &impl Files,
+    errors: &impl Print,
+    program: &[u8],
+    path: &[u8],
+    whole: io::Result<()>,
+) -> bool {
     let part = part_of(path);
     let name = part.name;
     let len = part.len;
     if len <= name.len() {
-        return rename(program, path, &name[..len], whole);
+        return rename(rt, errors, program, path, &name[..len], whole);
     }
     false
 }
 
-fn rename(program: &[u8], path: &[u8], part: &[u8], whole: bool) -> bool {
-    if whole && os::rename(part, path) == 0 {
-        return true;
+fn rename(
+    rt: &impl Files,
+    errors: &impl Print,
+    program: &[u8],
+    path: &[u8],
+    part: &[u8],
+    whole: io::Result<()>,
+) -> bool {
+    match renamed(rt, path, part, whole) {
+        Ok(()) => true,
+        Err(why) => {
+            words::cannot_write(errors, program, path, why);
+            remove(rt, errors, program, part);
+            false
+        }
     }
-    words::cannot_write(program, path);
-    remove(program, part);
-    false
 }
 
-fn remove(program: &[u8], part: &[u8]) {
-    if os::unlink(part) < 0 {
-        words::cannot_remove(program, part);
+fn renamed(rt: &impl Files, path: &[u8], part: &[u8], whole: io::Result<()>) -> io::Result<()> {
+    whole?;
+    fs::rename(rt, named(part)?, named(path)?)
+}
+
+fn remove(rt: &impl Files, errors: &impl Print, program: &[u8], part: &[u8]) {
+    match removed(rt, part) {
+        Ok(()) => {}
+        Err(why) => words::cannot_remove(errors, program, part, why),
     }
+}
+
+fn removed(rt: &impl Files, part: &[u8]) -> io::Result<()> {
+    fs::remove_file(rt, named(part)?)
 }

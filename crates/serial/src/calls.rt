@@ -9,7 +9,7 @@ use crate::page;
 use uart::Chip;
 
 // The chip after a line, and the place behind what is printed.
-#[derive(Drop)]
+#[derive(Clone, Copy)]
 pub struct Told {
     pub chip: Chip,
     pub at: usize,

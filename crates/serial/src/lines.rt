@@ -4,7 +4,7 @@ ghost use Rattle.std.specs.Prelude.{◌≡◌};
 ghost use Rattle.serial.specs.Lines.{fresh_line, spoiled, with_letter, with_digit, with_comma, next_of, asked_of, one_asked, two_asked, write_asked, rate_asked, address_of, fill_asked, lapse_asked, write_of};
 
 // What the bytes of a line so far come to.
-#[derive(Drop)]
+#[derive(Clone, Copy)]
 pub struct Line {
     // the first byte, 0 before it
     letter: u8,
@@ -22,7 +22,7 @@ pub struct Line {
     other: bool,
 }
 
-#[derive(Drop)]
+#[derive(Clone, Copy)]
 pub enum Asked {
     Rate(u32),
     Read(u8),

@@ -2,26 +2,31 @@
 // argument --ext it takes longer fills, T lines that give the outbox's length, and the lines of 02.
 #![tactic(auto)]
 
-use libc::STDERR_FILENO;
+use std::env::Env;
 
-fn main() {
-    let count = os::arg_count();
-    if count < 2 {
-        panel::run(false, true);
+fn main(rt: HostRuntime) {
+    let errors = rt.stderr();
+    if !console::stream::has_word(&rt, 1) {
+        panel::run(&mut rt.stdin(), &rt, &errors, false, true);
         return;
     }
-    if count == 2 && is_ext() {
-        panel::run(true, true);
+    if !console::stream::has_word(&rt, 2) && is_ext(&rt) {
+        panel::run(&mut rt.stdin(), &rt, &errors, true, true);
         return;
     }
-    io::write_all(STDERR_FILENO, b"tap: the only argument is --ext\n");
+    let _ = Print::write_all(&errors, b"tap: the only argument is --ext\n");
 }
 
-fn is_ext() -> bool {
+fn is_ext(words: &impl Env) -> bool {
     let mut word = [0u8; 8];
-    if os::arg(1, &mut word) != 5 {
-        return false;
+    match words.arg(1, &mut word) {
+        Ok(count) => {
+            if count != 5 {
+                return false;
+            }
+            let dashes = (word[0] == b'-') & (word[1] == b'-');
+            dashes & (word[2] == b'e') & (word[3] == b'x') & (word[4] == b't')
+        }
+        Err(_) => false,
     }
-    let dashes = (word[0] == b'-') & (word[1] == b'-');
-    dashes & (word[2] == b'e') & (word[3] == b'x') & (word[4] == b't')
 }
