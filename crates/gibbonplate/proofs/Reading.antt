@@ -5,7 +5,9 @@ use mathlib.Core.Path.{◌≡◌}
 use mathlib.Core.Bool.{Bool, cond}
 use mathlib.Core.List.{List, [], ◌∷◌}
 use contract.Lifetimes.{Lfts}
-use denote.Ref.{MutBor, at_last}
+use denote.Bor.{Bor}
+use denote.MutBor.{MutBor}
+use denote.Ref.{at_last}
 use lib.Dec.{eqb, leb}
 use lib.Ieee.{Float}
 use lib.IntN.{ℤ}
@@ -75,7 +77,7 @@ module _ (longs counts : MutBor (List ℕ)) (reals : MutBor (List Float)) (marks
         × (given ≡ first_of answer.reply ∷ second_of answer.reply ∷ []) × (count ≡ answer.sent)
     feed-call κs byte carrier out codes sent left given count d = (d.refusal, d.memory, d.outbox, d.codes, d.sent)
 
-    pub string-call : (κs : Lfts 11) (bytes : MutBor (List ℕ)) (carrier : Bool) (out codes : MutBor (List ℕ)) (sent : MutBor ℕ) (left given : List ℕ) (count : ℕ)
+    pub string-call : (κs : Lfts 11) (bytes : Bor (List ℕ)) (carrier : Bool) (out codes : MutBor (List ℕ)) (sent : MutBor ℕ) (left given : List ℕ) (count : ℕ)
         → feed-all-in.Learnt κs (longs, (counts, (reals, (marks, (line, (keys, (queue, (bytes, (carrier, (out, (codes, (sent, tt)))))))))))) number
         (at_last longs longs1, (at_last counts counts1, (at_last reals reals1, (at_last marks marks1, (at_last line line1, (at_last keys keys1, (at_last queue queue1, (bytes, (carrier, (at_last out left, (at_last codes given, (at_last sent count, tt))))))))))))
         → let answer = typed_all s bytes.now carrier (length out.now) (length codes.now) in
@@ -112,44 +114,50 @@ module _ (longs counts : MutBor (List ℕ)) (reals : MutBor (List Float)) (marks
         × (lights ≡ key_numbers answer.key)
     fill-call κs samples key left lights d = (d.refusal, d.memory, d.samples, d.key)
 
-  -- those that only read it
+-- ---- those that only read it
+module _ (longs counts : Bor (List ℕ)) (reals : Bor (List Float)) (marks line keys queue : Bor (List ℕ)) where
+  abbrev u : Set
+  u = loaded (memory longs.now counts.now reals.now marks.now line.now keys.now queue.now)
+
   pub ring-call : (κs : Lfts 8) (ring : MutBor ℕ) (value number : ℕ)
       → ring_in.Learnt κs (longs, (counts, (reals, (marks, (line, (keys, (queue, (ring, tt)))))))) number (longs, (counts, (reals, (marks, (line, (keys, (queue, (at_last ring value, tt))))))))
-      → (number ≡ refusal_number (rung s).refusal) × (value ≡ (rung s).ring)
+      → (number ≡ refusal_number (rung u).refusal) × (value ≡ (rung u).ring)
   ring-call κs ring value number d = (d.refusal, d.ring)
 
   pub cue-call : (κs : Lfts 9) (position : ℕ) (sample : MutBor ℕ) (key : MutBor (List ℕ)) (value : ℕ) (lights : List ℕ) (number : ℕ)
       → cue-in.Learnt κs (longs, (counts, (reals, (marks, (line, (keys, (queue, (position, (sample, (key, tt)))))))))) number
       (longs, (counts, (reals, (marks, (line, (keys, (queue, (position, (at_last sample value, (at_last key lights, tt))))))))))
-      → (number ≡ cue_refusal_number (cued s position).refusal) × (value ≡ (cued s position).sample) × (lights ≡ key_numbers (cued s position).key)
+      → (number ≡ cue_refusal_number (cued u position).refusal) × (value ≡ (cued u position).sample) × (lights ≡ key_numbers (cued u position).key)
   cue-call κs position sample key value lights number d = (d.refusal, d.sample, d.key)
 
   -- the plain readers
-  pub mode-is : (κs : Lfts 7) (answer : ℕ) → mode-in.Learnt κs (longs, (counts, (reals, (marks, (line, (keys, (queue, tt))))))) answer (longs, (counts, (reals, (marks, (line, (keys, (queue, tt))))))) → answer ≡ cond (command_mode s.processor) 67 68
+  pub mode-is : (κs : Lfts 7) (answer : ℕ) → mode-in.Learnt κs (longs, (counts, (reals, (marks, (line, (keys, (queue, tt))))))) answer (longs, (counts, (reals, (marks, (line, (keys, (queue, tt))))))) → answer ≡ cond (command_mode u.processor) 67 68
   mode-is κs answer d = d
 
-  pub state-is : (κs : Lfts 7) (answer : ℕ) → state-in.Learnt κs (longs, (counts, (reals, (marks, (line, (keys, (queue, tt))))))) answer (longs, (counts, (reals, (marks, (line, (keys, (queue, tt))))))) → answer ≡ state_number s.session.state
+  pub state-is : (κs : Lfts 7) (answer : ℕ) → state-in.Learnt κs (longs, (counts, (reals, (marks, (line, (keys, (queue, tt))))))) answer (longs, (counts, (reals, (marks, (line, (keys, (queue, tt))))))) → answer ≡ state_number u.session.state
   state-is κs answer d = d
 
-  pub stage_is : (κs : Lfts 7) (answer : ℕ) → stage-in.Learnt κs (longs, (counts, (reals, (marks, (line, (keys, (queue, tt))))))) answer (longs, (counts, (reals, (marks, (line, (keys, (queue, tt))))))) → answer ≡ s.session.shown
+  pub stage_is : (κs : Lfts 7) (answer : ℕ) → stage-in.Learnt κs (longs, (counts, (reals, (marks, (line, (keys, (queue, tt))))))) answer (longs, (counts, (reals, (marks, (line, (keys, (queue, tt))))))) → answer ≡ u.session.shown
   stage_is κs answer d = d
 
-  pub m-is : (κs : Lfts 7) (answer : ℕ) → m-in.Learnt κs (longs, (counts, (reals, (marks, (line, (keys, (queue, tt))))))) answer (longs, (counts, (reals, (marks, (line, (keys, (queue, tt))))))) → answer ≡ s.session.m
+  pub m-is : (κs : Lfts 7) (answer : ℕ) → m-in.Learnt κs (longs, (counts, (reals, (marks, (line, (keys, (queue, tt))))))) answer (longs, (counts, (reals, (marks, (line, (keys, (queue, tt))))))) → answer ≡ u.session.m
   m-is κs answer d = d
 
-  pub s12-is : (κs : Lfts 7) (answer : ℕ) → s12-in.Learnt κs (longs, (counts, (reals, (marks, (line, (keys, (queue, tt))))))) answer (longs, (counts, (reals, (marks, (line, (keys, (queue, tt))))))) → answer ≡ s12_of s
+  pub s12-is : (κs : Lfts 7) (answer : ℕ) → s12-in.Learnt κs (longs, (counts, (reals, (marks, (line, (keys, (queue, tt))))))) answer (longs, (counts, (reals, (marks, (line, (keys, (queue, tt))))))) → answer ≡ s12_of u
   s12-is κs answer d = d
 
-  pub rate-is : (κs : Lfts 7) (answer : ℕ) → rate-in.Learnt κs (longs, (counts, (reals, (marks, (line, (keys, (queue, tt))))))) answer (longs, (counts, (reals, (marks, (line, (keys, (queue, tt))))))) → answer ≡ s.rate
+  pub rate-is : (κs : Lfts 7) (answer : ℕ) → rate-in.Learnt κs (longs, (counts, (reals, (marks, (line, (keys, (queue, tt))))))) answer (longs, (counts, (reals, (marks, (line, (keys, (queue, tt))))))) → answer ≡ u.rate
   rate-is κs answer d = d
 
   pub digits_are : (κs : Lfts 8) (digits : MutBor (List ℕ)) (left : List ℕ) (answer : ℕ)
       → digits_in.Learnt κs (longs, (counts, (reals, (marks, (line, (keys, (queue, (digits, tt)))))))) answer (longs, (counts, (reals, (marks, (line, (keys, (queue, (at_last digits left, tt))))))))
-      → (answer ≡ cond (leb s.session.digits.len 76) s.session.digits.len 0) × (left ≡ s.session.digits.keys)
+      → (answer ≡ cond (leb u.session.digits.len 76) u.session.digits.len 0) × (left ≡ u.session.digits.keys)
   digits_are κs digits left answer d = (d.0, d.1)
 
-  -- no call and no reader asks anything, whatever the memory holds
-  module _ (κ7 : Lfts 7) (κ8 : Lfts 8) (κ9 : Lfts 9) (κ10 : Lfts 10) (κ11 : Lfts 11) (n position : ℕ) (carrier : Bool) (bytes out codes key : MutBor (List ℕ)) (samples : MutBor (List Float)) (one : MutBor ℕ) where
+-- ---- no call and no reader asks anything, whatever the memory holds
+module _ (longs counts : MutBor (List ℕ)) (reals : MutBor (List Float)) (marks line keys queue : MutBor (List ℕ)) where
+  module _ (longs' counts' : Bor (List ℕ)) (reals' : Bor (List Float)) (marks' line' keys' queue' : Bor (List ℕ))
+      (κ7 : Lfts 7) (κ8 : Lfts 8) (κ9 : Lfts 9) (κ10 : Lfts 10) (κ11 : Lfts 11) (n position : ℕ) (carrier : Bool) (bytes : Bor (List ℕ)) (out codes key : MutBor (List ℕ)) (samples : MutBor (List Float)) (one : MutBor ℕ) where
     pub calls-ask-nothing : new_in.Asked κ7 (longs, (counts, (reals, (marks, (line, (keys, (queue, (n, tt))))))))
         × feed-in.Asked κ10 (longs, (counts, (reals, (marks, (line, (keys, (queue, (n, (carrier, (out, (codes, (one, tt))))))))))))
         × feed-all-in.Asked κ11 (longs, (counts, (reals, (marks, (line, (keys, (queue, (bytes, (carrier, (out, (codes, (one, tt))))))))))))
@@ -157,17 +165,17 @@ module _ (longs counts : MutBor (List ℕ)) (reals : MutBor (List Float)) (marks
         × force-data-mode-in.Asked κ7 (longs, (counts, (reals, (marks, (line, (keys, (queue, tt)))))))
         × queue-byte-in.Asked κ7 (longs, (counts, (reals, (marks, (line, (keys, (queue, (n, tt))))))))
         × process-out-in.Asked κ9 (longs, (counts, (reals, (marks, (line, (keys, (queue, (samples, (key, tt)))))))))
-        × ring_in.Asked κ8 (longs, (counts, (reals, (marks, (line, (keys, (queue, (one, tt))))))))
-        × cue-in.Asked κ9 (longs, (counts, (reals, (marks, (line, (keys, (queue, (position, (one, (key, tt))))))))))
+        × ring_in.Asked κ8 (longs', (counts', (reals', (marks', (line', (keys', (queue', (one, tt))))))))
+        × cue-in.Asked κ9 (longs', (counts', (reals', (marks', (line', (keys', (queue', (position, (one, (key, tt))))))))))
     calls-ask-nothing = (tt, tt, tt, tt, tt, tt, tt, tt, tt)
 
-    pub readers-ask-nothing : mode-in.Asked κ7 (longs, (counts, (reals, (marks, (line, (keys, (queue, tt)))))))
-        × state-in.Asked κ7 (longs, (counts, (reals, (marks, (line, (keys, (queue, tt)))))))
-        × stage-in.Asked κ7 (longs, (counts, (reals, (marks, (line, (keys, (queue, tt)))))))
-        × m-in.Asked κ7 (longs, (counts, (reals, (marks, (line, (keys, (queue, tt)))))))
-        × s12-in.Asked κ7 (longs, (counts, (reals, (marks, (line, (keys, (queue, tt)))))))
-        × rate-in.Asked κ7 (longs, (counts, (reals, (marks, (line, (keys, (queue, tt)))))))
-        × digits_in.Asked κ8 (longs, (counts, (reals, (marks, (line, (keys, (queue, (out, tt))))))))
+    pub readers-ask-nothing : mode-in.Asked κ7 (longs', (counts', (reals', (marks', (line', (keys', (queue', tt)))))))
+        × state-in.Asked κ7 (longs', (counts', (reals', (marks', (line', (keys', (queue', tt)))))))
+        × stage-in.Asked κ7 (longs', (counts', (reals', (marks', (line', (keys', (queue', tt)))))))
+        × m-in.Asked κ7 (longs', (counts', (reals', (marks', (line', (keys', (queue', tt)))))))
+        × s12-in.Asked κ7 (longs', (counts', (reals', (marks', (line', (keys', (queue', tt)))))))
+        × rate-in.Asked κ7 (longs', (counts', (reals', (marks', (line', (keys', (queue', tt)))))))
+        × digits_in.Asked κ8 (longs', (counts', (reals', (marks', (line', (keys', (queue', (out, tt))))))))
     readers-ask-nothing = (tt, tt, tt, tt, tt, tt, tt)
 
 -- 02, E6: the writer of replies is handed S12
@@ -177,7 +185,7 @@ pub writer-is : (κs : Lfts 1) (code s12 : ℕ) (out : MutBor (List ℕ)) (left 
 writer-is κs code s12 out left n d = (d.0, d.1)
 
 -- ---- 02, E4
-module _ (κs : Lfts 1) (digits : MutBor (List ℕ)) (rate : ℕ) where
+module _ (κs : Lfts 1) (digits : Bor (List ℕ)) (rate : ℕ) where
   pub plan-asks-nothing : (stage : ℕ)
       → plan-refusal.Asked κs (digits, (rate, tt))
       × stage-samples.Asked κs (digits, (rate, (stage, tt)))
@@ -207,7 +215,7 @@ module _ (κs : Lfts 1) (digits : MutBor (List ℕ)) (rate : ℕ) where
       most = (d.1.1 slow fast few).most
 
 -- ---- 02, E14
-module _ (κs : Lfts 2) (digits : MutBor (List ℕ)) (rate pass : ℕ) (out : MutBor (List ℤ)) (left : List ℤ) (number : ℕ)
+module _ (κs : Lfts 2) (digits : Bor (List ℕ)) (rate pass : ℕ) (out : MutBor (List ℤ)) (left : List ℤ) (number : ℕ)
     (d : earpiece.Learnt κs (digits, (rate, (pass, (out, tt)))) number (digits, (rate, (pass, (at_last out left, tt))))) where
   earpiece-is : EarpieceIs digits.now rate pass out.now left number
   earpiece-is = d

@@ -1,0 +1,11 @@
+-- `bench::bench_fills` is safe and ends: the measure is how many turns are left. Assumes nothing.
+use Prim.Native.Nat.{◌-◌}
+use mathlib.Core.Path.{◌≡◌}
+use lib.ListN.{length}
+use Rattle.bench.proofs.bench_fills.Given as goal
+
+abbrev pub invariant-loop-i : goal.invariant-loop-i
+invariant-loop-i l = length l.out ≡ length l.initial.out
+
+abbrev pub decreases-loop-i : goal.decreases-loop-i
+decreases-loop-i l = l.turns - l.i

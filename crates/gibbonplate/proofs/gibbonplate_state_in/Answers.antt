@@ -1,0 +1,5 @@
+-- `gibbonplate_state_in` meets its contract: read from what was loaded. Assumes nothing.
+use Rattle.gibbonplate.proofs.gibbonplate_state_in.Goals as goal
+
+pub returns : goal.returns
+returns c = rw (c.number.ensures, c.state-state.ensures, c.load-set.ensures.value)
