@@ -1,5 +1,4 @@
 -- `next_state` meets its contract: by whether it ended. Assumes nothing.
-use borrow.Author.Rules.{rules}
 use Rattle.overture.proofs.next_state.Goals as goal
 
 pub returns-then-ended : goal.returns-then-ended

@@ -1,10 +1,8 @@
 -- `play_answer` meets its contract: the invariant is `Playing`. Assumes nothing.
 use Prim.Native.Nat.{◌-◌}
-use native.Mathlib.Omega.{arith}
 use Rattle.tones.specs.Mixed.{answer_of}
 use Rattle.overture.specs.Writers.{mixing}
-use Rattle.overture.proofs.Playing.{Playing, playing-start, playing-long, playing-again, playing-done}
-use borrow.Author.Rules.{rules}
+use Rattle.overture.proofs.Playing.{Playing}
 use Rattle.overture.proofs.play_answer.Given as goal
 
 abbrev pub invariant-loop-i : goal.invariant-loop-i

@@ -1,9 +1,6 @@
 -- `play_click` meets its contract: the invariant is `Playing`. Assumes nothing.
-use Prim.Native.Nat.{◌-◌}
 use native.Mathlib.Omega.{arith}
-use Rattle.overture.specs.Writers.{clicking}
-use Rattle.overture.proofs.Playing.{Playing, playing-start, playing-long, playing-again, playing-done}
-use borrow.Author.Rules.{rules}
+use Rattle.overture.proofs.Playing.{playing-start, playing-long, playing-again, playing-done}
 use Rattle.overture.proofs.play_click.Goals as goal
 
 pub loop-i-init : goal.loop-i-init

@@ -2,7 +2,6 @@
 use mathlib.Core.Path.{refl}
 use Rattle.tones.specs.Mixed.{gated_of}
 use Rattle.overture.proofs.Playing.{zeros-played}
-use borrow.Author.Rules.{rules}
 use Rattle.overture.proofs.play_gated.Goals as goal
 
 pub returns-then-on : goal.returns-then-on

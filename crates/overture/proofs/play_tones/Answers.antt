@@ -1,11 +1,6 @@
 -- `play_tones` meets its contract: the invariant is `Playing`. Assumes nothing.
-use Prim.Native.Nat.{◌-◌}
-use mathlib.Core.Bool.{true}
 use native.Mathlib.Omega.{arith}
-use Rattle.tones.specs.Mixed.{gated_of}
-use Rattle.overture.specs.Writers.{mixing}
-use Rattle.overture.proofs.Playing.{Playing, playing-start, playing-long, playing-again, playing-done}
-use borrow.Author.Rules.{rules}
+use Rattle.overture.proofs.Playing.{playing-start, playing-long, playing-again, playing-done}
 use Rattle.overture.proofs.play_tones.Goals as goal
 
 pub loop-i-init : goal.loop-i-init

@@ -1,9 +1,7 @@
 -- `read` meets its contract: the invariant is `Filling`; what a writer leaves of the part lent to it comes back by `fill-again`. Assumes nothing.
 use Prim.Native.Nat.{◌-◌}
 use lib.ListN.{length}
-use native.Mathlib.Omega.{arith}
-use Rattle.overture.proofs.Filling.{Filling, fill_start, fill-again, fill-long, fill-buffer, fill-state, fill-shown, fits_in, part-some}
-use borrow.Author.Rules.{rules}
+use Rattle.overture.proofs.Filling.{Filling}
 use Rattle.overture.proofs.read.Given as goal
 
 abbrev pub invariant-loop-at : goal.invariant-loop-at

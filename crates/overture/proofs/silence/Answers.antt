@@ -1,6 +1,5 @@
 -- `silence` meets its contract: behind the zeros nothing is left. Assumes nothing.
 use Rattle.overture.proofs.Playing.{all-zeros}
-use borrow.Author.Rules.{rules}
 use Rattle.overture.proofs.silence.Goals as goal
 
 pub returns : goal.returns

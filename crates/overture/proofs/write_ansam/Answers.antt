@@ -1,6 +1,5 @@
 -- `write_ansam` meets its contract: a run of one sign is played, and with it the stage may end. Assumes nothing.
 use Rattle.overture.proofs.Stages.{ansam-wrote}
-use borrow.Author.Rules.{rules}
 use Rattle.overture.proofs.write_ansam.Goals as goal
 
 pub returns : goal.returns

@@ -1,9 +1,7 @@
 -- `write_bits` meets its contract: the invariant is `Sending`; a turn takes two of its steps. Assumes nothing.
-use Prim.Native.Nat.{◌-◌, ◌≤◌}
-use lib.ListN.{length, length-set}
+use lib.ListN.{length-set}
 use native.Mathlib.Omega.{arith}
-use Rattle.overture.proofs.Sending.{Sending, sending-start, sending-long, sending-again, sending-ended, sending-full}
-use borrow.Author.Rules.{rules}
+use Rattle.overture.proofs.Sending.{sending-start, sending-long, sending-again, sending-ended, sending-full}
 use Rattle.overture.proofs.write_bits.Goals as goal
 
 pub loop-out-init : goal.loop-out-init
@@ -47,17 +45,17 @@ loop-out-smaller c = omega (arith, sending-long _ _ _ _ _ _ _ c.loop-out.invaria
 
 pub loop-out-preserved : goal.loop-out-preserved
 loop-out-preserved c = (
-      sending-again _ _ _ _ _ _ _
-          (sending-again _ _ _ _ _ _ _ c.loop-out.invariant.0 (omega (arith, c.loop-out-test.true)) _ _
-          (rw (c.narrow.ensures, c.sample_twice-s.ensures.0))
-          c.moved-g.ensures
-          c.if-g-total.false)
-          (simp length-set (omega (arith, c.loop-out-test.true))) _ _
-          (rw (c.narrow-in-loop-out.ensures, c.sample_twice-s.ensures.1))
-          c.moved-h.ensures
-          c.if-h-total.false,
-      simp (length-set, length-set) (omega (arith, c.loop-out-test.true)),
-    )
+  sending-again _ _ _ _ _ _ _
+      (sending-again _ _ _ _ _ _ _ c.loop-out.invariant.0 (omega (arith, c.loop-out-test.true)) _ _
+      (rw (c.narrow.ensures, c.sample_twice-s.ensures.0))
+      c.moved-g.ensures
+      c.if-g-total.false)
+      (simp length-set (omega (arith, c.loop-out-test.true))) _ _
+      (rw (c.narrow-in-loop-out.ensures, c.sample_twice-s.ensures.1))
+      c.moved-h.ensures
+      c.if-h-total.false,
+  simp (length-set, length-set) (omega (arith, c.loop-out-test.true)),
+)
 
 pub shape_of-out-then-i-out : goal.shape_of-out-then-i-out
 shape_of-out-then-i-out c = simp length-set (sending-long _ _ _ _ _ _ _ c.loop-out.invariant.0)

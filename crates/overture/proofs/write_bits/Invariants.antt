@@ -1,9 +1,7 @@
 -- `write_bits` meets its contract: the invariant is `Sending`; a turn takes two of its steps. Assumes nothing.
 use Prim.Native.Nat.{◌-◌, ◌≤◌}
-use lib.ListN.{length, length-set}
-use native.Mathlib.Omega.{arith}
-use Rattle.overture.proofs.Sending.{Sending, sending-start, sending-long, sending-again, sending-ended, sending-full}
-use borrow.Author.Rules.{rules}
+use lib.ListN.{length}
+use Rattle.overture.proofs.Sending.{Sending}
 use Rattle.overture.proofs.write_bits.Given as goal
 
 abbrev pub invariant-loop-out : goal.invariant-loop-out

@@ -1,6 +1,5 @@
 -- `write_cj_bits` meets its contract: the state is the same whether its bits are done or not. Assumes nothing.
 use Rattle.overture.proofs.Stages.{cj-bits-wrote}
-use borrow.Author.Rules.{rules}
 use Rattle.overture.proofs.write_cj_bits.Goals as goal
 
 pub returns : goal.returns

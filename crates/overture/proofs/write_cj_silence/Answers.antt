@@ -1,7 +1,6 @@
 -- `write_cj_silence` meets its contract: zeros are written to the end of the stage or of the part. Assumes nothing.
 use native.Mathlib.Nat.{le_refl}
 use Rattle.overture.proofs.Stages.{cj-silence-wrote}
-use borrow.Author.Rules.{rules}
 use Rattle.overture.proofs.write_cj_silence.Goals as goal
 
 pub returns : goal.returns

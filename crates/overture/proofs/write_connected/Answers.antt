@@ -1,6 +1,5 @@
 -- `write_connected` meets its contract: its samples are zeros, and its state stays. Assumes nothing.
 use Rattle.overture.proofs.Stages.{connected-wrote}
-use borrow.Author.Rules.{rules}
 use Rattle.overture.proofs.write_connected.Goals as goal
 
 pub returns : goal.returns

@@ -1,7 +1,6 @@
 -- `write_dial_tone` meets its contract: two tones are played to the end of the stage or of the part. Assumes nothing.
 use native.Mathlib.Nat.{le_refl}
 use Rattle.overture.proofs.Stages.{dial-tone-wrote}
-use borrow.Author.Rules.{rules}
 use Rattle.overture.proofs.write_dial_tone.Goals as goal
 
 pub returns : goal.returns

@@ -2,7 +2,6 @@
 use mathlib.Core.Path.{refl}
 use Rattle.stage.specs.Next.{sample_next, state_next, generate_of, dialling_of}
 use Rattle.overture.proofs.Stages.{one-wrote}
-use borrow.Author.Rules.{rules}
 use Rattle.overture.proofs.write_dialled.Goals as goal
 
 pub returns : goal.returns

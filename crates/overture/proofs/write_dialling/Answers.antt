@@ -1,6 +1,5 @@
 -- `write_dialling` meets its contract: a run of one pair is played, or else one sample. Assumes nothing.
 use Rattle.overture.proofs.Stages.{dialling-wrote}
-use borrow.Author.Rules.{rules}
 use Rattle.overture.proofs.write_dialling.Goals as goal
 
 pub returns-then-count-gt0 : goal.returns-then-count-gt0

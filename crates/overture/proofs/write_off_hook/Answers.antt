@@ -1,6 +1,5 @@
 -- `write_off_hook` meets its contract: the click is played to the end of the stage or of the part. Assumes nothing.
 use Rattle.overture.proofs.Stages.{off-hook-wrote}
-use borrow.Author.Rules.{rules}
 use Rattle.overture.proofs.write_off_hook.Goals as goal
 
 pub returns : goal.returns

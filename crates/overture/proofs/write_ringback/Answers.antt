@@ -1,6 +1,5 @@
 -- `write_ringback` meets its contract: a run in tone or in a gap is played, and with it the stage may end. Assumes nothing.
 use Rattle.overture.proofs.Stages.{ringback-wrote}
-use borrow.Author.Rules.{rules}
 use Rattle.overture.proofs.write_ringback.Goals as goal
 
 pub returns : goal.returns

@@ -1,6 +1,5 @@
 -- `write_stage` meets its contract: case by case, each stage by its own writer, and those that are bits by the writer of bits. Assumes nothing.
 use Rattle.overture.proofs.Stages.{ci-wrote, cm-jm-wrote, training-wrote}
-use borrow.Author.Rules.{rules}
 use Rattle.overture.proofs.write_stage.Goals as goal
 
 pub returns-in-OffHook : goal.returns-in-OffHook

@@ -1,9 +1,6 @@
 -- `write_zeros` meets its contract: the invariant is `Playing`, with nothing in hand. Assumes nothing.
 use Prim.Native.Nat.{◌-◌}
-use mathlib.Core.Path.{refl}
-use native.Mathlib.Omega.{arith}
-use Rattle.overture.proofs.Playing.{Playing, playing-start, playing-long, playing-again, playing-done, zero-narrowed, zeros-over, resting}
-use borrow.Author.Rules.{rules}
+use Rattle.overture.proofs.Playing.{Playing, resting}
 use Rattle.overture.proofs.write_zeros.Given as goal
 
 abbrev pub invariant-loop-i : goal.invariant-loop-i

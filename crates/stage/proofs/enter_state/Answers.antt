@@ -1,6 +1,5 @@
 -- `enter_state` meets its contract: case by case; a literal frequency is the whole number, computed. Assumes nothing.
 use Rattle.stage.specs.Enter.{enter_of}
-use borrow.Author.Rules.{rules}
 use Rattle.stage.proofs.enter_state.Goals as goal
 
 pub returns-in-OffHook : goal.returns-in-OffHook

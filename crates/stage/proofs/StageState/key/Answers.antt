@@ -1,5 +1,4 @@
 -- `StageState::key` meets its contract: in Dialling by the digit and the tone that the state holds, in another stage none. Assumes nothing.
-use borrow.Author.Rules.{rules}
 use Rattle.stage.proofs.StageState.key.Goals as goal
 
 pub returns-in-Dialling : goal.returns-in-Dialling

@@ -1,5 +1,4 @@
 -- `StageState::shown` meets its contract: stage and key are the state's. Assumes nothing.
-use borrow.Author.Rules.{rules}
 use Rattle.stage.proofs.StageState.shown.Goals as goal
 
 pub returns : goal.returns

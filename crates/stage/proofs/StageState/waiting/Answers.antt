@@ -1,5 +1,4 @@
 -- `StageState::waiting` meets its contract: its stage is the state's. Assumes nothing.
-use borrow.Author.Rules.{rules}
 use Rattle.stage.proofs.StageState.waiting.Goals as goal
 
 pub returns : goal.returns
