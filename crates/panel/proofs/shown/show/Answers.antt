@@ -1,0 +1,5 @@
+-- `shown::show` meets its contract, by what the readers ensure. Assumes nothing.
+use Rattle.panel.proofs.shown.show.Goals as goal
+
+pub returns : goal.returns
+returns c = rw (c.second.ensures, c.first.ensures, c.m.ensures, c.stage.ensures, c.number.ensures, c.in_command_mode.ensures, c.state-state.ensures)
