@@ -94,7 +94,7 @@ pub record Answers (s : Set) : Type 0 where
       → write-reply.Asked κs (code, (s12, (out, tt)))
       × ((left : List ℕ) (n : ℕ) → write-reply.Learnt κs (code, (s12, (out, tt))) n (code, (s12, (at_last out left, tt)))
       → (n ≡ put_length (text_of code s12) (length out.now)) × (n ≡ 0 → left ≡ out.now))
-  -- the lent oscillator, whose contract is proved by hand and promises these definitions: with phase or step outside [0, TAU) it gives 0.0 and
+  -- the lent oscillator, whose contract promises these definitions: with phase or step outside [0, TAU) it gives 0.0 and
   -- the record stays
   pub oscillator : (nco : Nco) → phase_in_range nco.phase && phase_in_range nco.step ≡ false → (lent_sample nco ≡ zero) × (lent_nco nco ≡ nco)
 

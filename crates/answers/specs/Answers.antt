@@ -56,6 +56,6 @@ pub record Answers (s : Set) : Type 0 where
   -- the writer of replies: where it writes nothing the buffer keeps its contents
   pub writer : (code s12 : ℕ) (out left : List ℕ) (n : ℕ) → (n ≡ put_length (text_of code s12) (length out)) × (left ≡ put (text_of code s12) out)
       → (n ≡ put_length (text_of code s12) (length out)) × (n ≡ 0 → left ≡ out)
-  -- the lent oscillator, whose contract is proved by hand and promises these definitions: with phase or step outside [0, TAU) it gives 0.0 and
+  -- the lent oscillator, whose contract promises these definitions: with phase or step outside [0, TAU) it gives 0.0 and
   -- the record stays
   pub oscillator : (nco : Nco) → phase_in_range nco.phase && phase_in_range nco.step ≡ false → (lent_sample nco ≡ zero) × (lent_nco nco ≡ nco)

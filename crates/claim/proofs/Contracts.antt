@@ -28,6 +28,10 @@ use Rattle.claim.specs.Strings.{Step, single, string, set_of, all_singles, Holds
 use Rattle.claim.specs.Before.{NoS12Line, AllAsBefore}
 use Rattle.claim.proofs.Strings.{claim}
 use Rattle.claim.proofs.Before.{unset}
+use Rattle.claim.proofs.Lists as lists
+use Rattle.claim.proofs.Lists.{Act, every-list}
+use Rattle.claim.proofs.Worked as worked
+use Rattle.claim.proofs.WorkedSent as sent
 
 -- the event is that of a call on the set s, which was allowed, and did what its contract promises
 pub data Did (s : Set) : Event → Type 0 where
@@ -90,3 +94,40 @@ claim-of-contracts rate xs h = claim rate xs (history _ xs h)
 pub unset-of-contracts : (rate : ℕ) (xs : List Step) → History (set.made rate).set xs → NoS12Line (set.made rate).set (all_singles (set.made rate).set xs)
     → AllAsBefore (set.made rate).set (all_singles (set.made rate).set xs)
 unset-of-contracts rate xs h none = unset rate xs (history _ xs h) none
+
+-- ---- and back: each list of Strings.antt is one of calls that are allowed and did what their contracts promise, whatever memory is lent
+abbrev pub shown : {X : Type 0} → List X → Bor (List X)
+shown values = record { ref_ptr = (0, 0); now = values }
+
+abbrev pub lent : {X : Type 0} → List X → MutBor (List X)
+lent values = record { ref_ptr = (0, 0); ghost_name = 0; now = values }
+
+did-back : Lfts 1 → (s : Set) (e : Event) → trace.Did s e → Did s e
+did-back κs s e (trace.typed byte carrier was left answer d) =
+    typed byte carrier κs (lent was) left answer (feed-promises s byte carrier κs (lent was) left answer).0 ((feed-promises s byte carrier κs (lent was) left answer).1.1 d)
+did-back κs s e (trace.lapsed ns carrier answer d) =
+    lapsed ns carrier answer (advance-time-promises s ns carrier answer).0 ((advance-time-promises s ns carrier answer).1.1 d)
+did-back κs s e (trace.forced answer d) = forced answer (force-data-mode-promises s answer).0 ((force-data-mode-promises s answer).1.1 d)
+did-back κs s e (trace.filled was left answer d) =
+    filled κs (lent was) left answer (process-out-promises s κs (lent was) left answer).0 ((process-out-promises s κs (lent was) left answer).1.1 d)
+did-back κs s e (trace.queued byte answer d) = queued byte answer (queue-byte-promises s byte answer).0 ((queue-byte-promises s byte answer).1.1 d)
+
+happened-back : Lfts 3 → (s : Set) (x : Step) → strings.Happened s x → Happened s x
+happened-back κs s x (strings.called e d) = called e (did-back (κs.0, tt) s e d)
+happened-back κs s x (strings.typed_all bytes carrier was left codes codes_left answer d) =
+    let promises = feed-all-promises s κs (shown bytes) carrier (lent was) (lent codes) left codes_left answer in
+    typed_all κs (shown bytes) carrier (lent was) (lent codes) left codes_left answer promises.0 (promises.1.1 d)
+
+pub history-back : Lfts 3 → (s : Set) (xs : List Step) → strings.History s xs → History s xs
+history-back κs s [] h = tt
+history-back κs s (x ∷ xs) (h, t) = (happened-back κs s x h, history-back κs (set_of x) xs t)
+
+-- so the claim over the contracts is not empty: every list of calls can be made, and the worked lists are some
+pub every-list-of-contracts : (κs : Lfts 3) (s : Set) (acts : List Act) → History s (every-list s acts).steps
+every-list-of-contracts κs s acts = history-back κs s (every-list s acts).steps (every-list s acts).history
+
+pub worked-of-contracts : Lfts 3 → History (set.fresh_set 8000) worked.steps
+worked-of-contracts κs = history-back κs (set.fresh_set 8000) worked.steps worked.worked.history
+
+pub worked-sent-of-contracts : Lfts 3 → History (set.fresh_set 8000) sent.steps
+worked-sent-of-contracts κs = history-back κs (set.fresh_set 8000) sent.steps sent.worked-sent.history

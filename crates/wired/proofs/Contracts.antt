@@ -20,6 +20,7 @@ use Rattle.wired.specs.Trace as trace
 use Rattle.wired.specs.Trace.{Event, read_event, write_event, wait_event, fill_event, chip_of}
 use Rattle.wired.specs.Wired.{Served}
 use Rattle.wired.proofs.Wired.{serves}
+use Rattle.wired.proofs.Lists.{Act, made, every-list, acts}
 
 -- the event is that of a call on the chip c, which was allowed, and did what its contract promises
 pub data Did (c : Chip) : Event → Type 0 where
@@ -58,3 +59,24 @@ history c (e ∷ es) (d, t) = (did c e d, history e.chip es t)
 -- 02, E13, of every list of calls that did what their contracts promise
 pub serves-of-contracts : (rate : ℕ) (es : List Event) → Trace (uart.started rate).chip es → Served (uart.started rate).chip es
 serves-of-contracts rate es t = serves rate es (history _ es t)
+
+-- ---- and back: each list of Trace.antt is one of calls that are allowed and did what their contracts promise, whatever memory is lent
+abbrev pub lent : {X : Type 0} → List X → MutBor (List X)
+lent values = record { ref_ptr = (0, 0); ghost_name = 0; now = values }
+
+did-back : Lfts 1 → (c : Chip) (e : Event) → trace.Did c e → Did c e
+did-back κs c e (trace.reading address answer d) = reading address answer tt d
+did-back κs c e (trace.writing address value carrier was left answer d) = writing address value carrier κs (lent was) left answer tt d
+did-back κs c e (trace.waiting ns carrier answer d) = waiting ns carrier answer tt d
+did-back κs c e (trace.filling was left answer d) = filling κs (lent was) left answer tt d
+
+pub history-back : Lfts 1 → (c : Chip) (es : List Event) → trace.Trace c es → Trace c es
+history-back κs c [] t = tt
+history-back κs c (e ∷ es) (d, t) = (did-back κs c e d, history-back κs e.chip es t)
+
+-- so the theorem over the contracts is not empty: every list of calls has a trace, and the worked list is one
+pub every-list-of-contracts : (κs : Lfts 1) (c : Chip) (acts : List Act) → Trace c (made c acts)
+every-list-of-contracts κs c acts = history-back κs c (made c acts) (every-list c acts)
+
+pub worked-of-contracts : Lfts 1 → Trace (uart.started 8000).chip (made (uart.started 8000).chip acts)
+worked-of-contracts κs = every-list-of-contracts κs (uart.started 8000).chip acts
