@@ -3,7 +3,7 @@
 
     tools/snake_names.py [FOLDER]
 
-Run once, after /opt/rattle/port/port.py, at the top of the repository or on FOLDER. A name that begins with a small letter and has capitals
+Run once, after the toolchain's port.py, at the top of the repository or on FOLDER. A name that begins with a small letter and has capitals
 further on (`floorOf`, `endsS12`) gets underscores in their place; types, modules and constructors keep theirs. Functions of src/, strings,
 inputs and outputs have no such names. Where a lemma has the name that its function now gets, the lemma gets `_lem`."""
 import os
