@@ -1,0 +1,2 @@
+-- Why a call is declined.
+pub mod Refusal
