@@ -1,7 +1,7 @@
 // `tap`'s second line, written on a page that is a buffer.
 use crate::shown::{Second, Shown};
-use deframe::Unframed;
 use keys::Lit;
+use refusal::Refusal;
 use set::Set;
 
 // What the call's second line tells.
@@ -108,11 +108,11 @@ fn put_bits_read(out: &mut [u8], at: usize, bytes: &[u8], taken: usize, given: u
 }
 
 // The byte of a frame.
-fn put_frame(out: &mut [u8], at: usize, answer: Unframed) -> usize {
+fn put_frame(out: &mut [u8], at: usize, answer: Result<u8, Refusal>) -> usize {
     let k = text::put(out, at, b"# byte=");
     match answer {
-        Unframed::Byte(byte) => text::put_hex(out, k, byte as u64, 2),
-        Unframed::BadFrame => text::put_byte(out, k, b'-'),
+        Ok(byte) => text::put_hex(out, k, byte as u64, 2),
+        Err(_) => text::put_byte(out, k, b'-'),
     }
 }
 
