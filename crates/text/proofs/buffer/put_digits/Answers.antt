@@ -1,4 +1,4 @@
--- `text::put_digits` meets its contract: what `spell` writes is the text, whole (`digits-whole`). Assumes nothing.
+-- `text::buffer::put_digits` meets its contract: what `spell` writes is the text, whole (`digits-whole`). Assumes nothing.
 use Prim.Native.Nat.{◌+◌, ◌≤◌}
 use mathlib.Core.Path.{sym, ◌∙◌}
 use native.Mathlib.Omega.{arith}
@@ -6,8 +6,8 @@ use borrow.Author.Rules.{rules}
 use borrow.Author.Tests.{leb-true, leb-false}
 use lib.ListN.{length}
 use Rattle.text.proofs.Texts.{digits-whole, digits-none}
-use Rattle.text.proofs.put_digits.Goals as goal
-use Rattle.text.proofs.put_digits.Goals.{After-spell-arg-1}
+use Rattle.text.proofs.buffer.put_digits.Goals as goal
+use Rattle.text.proofs.buffer.put_digits.Goals.{After-spell-arg-1}
 
 room : (c : After-spell-arg-1) → let a = c.args in a.at + a.count ≤ length a.out.now
 room c = leb-true _ _ (sym c.has_room.ensures ∙ c.if-has_room.true)

@@ -1,4 +1,4 @@
--- `text::put_seconds` meets its contract: its three texts, for which there is room, are one (`seconds-whole`). Assumes nothing.
+-- `text::buffer::put_seconds` meets its contract: its three texts, for which there is room, are one (`seconds-whole`). Assumes nothing.
 use Prim.Native.Nat.{◌/◌}
 use mathlib.Core.Path.{sym, ap, ◌∙◌}
 use native.Mathlib.Omega.{arith}
@@ -8,7 +8,7 @@ use Rattle.text.specs.Digits.{last_digits}
 use Rattle.text.specs.Seconds.{parts_of, seconds_of, seconds_if}
 use Rattle.text.specs.Text.{Page, add_of}
 use Rattle.text.proofs.Texts.{add_nothing, few-places, seconds-whole, seconds-none}
-use Rattle.text.proofs.put_seconds.Goals as goal
+use Rattle.text.proofs.buffer.put_seconds.Goals as goal
 
 pub returns-then-rate-eq0 : goal.returns-then-rate-eq0
 unfolding seconds_of seconds_if

@@ -1,7 +1,7 @@
--- `text::glyph` meets its contract: by whether the digit is below 10. Assumes nothing.
+-- `text::buffer::glyph` meets its contract: by whether the digit is below 10. Assumes nothing.
 use borrow.Author.Tests.{lt-ltb, le-ltb}
 use Rattle.text.specs.Digits.{glyph_of, glyph_if}
-use Rattle.text.proofs.glyph.Goals as goal
+use Rattle.text.proofs.buffer.glyph.Goals as goal
 
 pub returns-then-digit-lt10 : goal.returns-then-digit-lt10
 unfolding glyph_of glyph_if

@@ -1,10 +1,10 @@
--- `text::put` meets its contract: after i turns the first i bytes of the text stand at their place (`Copied`).
+-- `text::buffer::put` meets its contract: after i turns the first i bytes of the text stand at their place (`Copied`).
 -- The measure is what is left of the text. Assumes nothing.
 use mathlib.Core.Path.{sym, ◌∙◌}
 use native.Mathlib.Omega.{arith}
 use borrow.Author.Tests.{leb-true, leb-false}
 use Rattle.text.proofs.Texts.{copied_none, copied-long, copied_more, copied_all, add_none}
-use Rattle.text.proofs.put.Goals as goal
+use Rattle.text.proofs.buffer.put.Goals as goal
 
 pub loop-i-init : goal.loop-i-init
 loop-i-init c = copied_none (leb-true _ _ (sym c.has_room.ensures ∙ c.if-has_room.true))
