@@ -1,10 +1,12 @@
 -- What the program `bill` prints for a line: `refusal,units,pence`, in decimal, or nothing.
-use Rattle.std.specs.Prelude.{ℕ}
+use Rattle.std.specs.Prelude.{ℕ, Result}
+use Rattle.refusal.specs.declared.Refusal.{Refusal}
+use Rattle.refusal.specs.Refusal.{answer_number}
 use Rattle.ascii.specs.Ascii.{ascii}
 use Rattle.text.specs.Text.{Page, add_of}
 use Rattle.text.specs.Digits.{decimal_of}
 use Rattle.tariff.specs.declared.Bill.{Bill}
-use Rattle.tariff.specs.Tariff.{bill_refusal_number, bill_of}
+use Rattle.tariff.specs.Tariff.{told, bill_of}
 use Rattle.tariff.specs.Hours.{bill_from}
 use Rattle.bill.specs.declared.lines.Asked.{Asked}
 use Rattle.bill.specs.declared.lines.Asked.TheVariants.{Time, From, Other}
@@ -13,8 +15,9 @@ use Rattle.bill.specs.declared.lines.Asked.TheVariants.{Time, From, Other}
 abbrev pub numbered : Page → ℕ → Page
 numbered p n = add_of (add_of p (decimal_of n)) (ascii ",")
 
-unfoldable pub billed : Page → Bill → Page
-billed p bill = add_of (add_of (numbered (numbered p (bill_refusal_number bill.refusal)) bill.units) (decimal_of bill.pence)) (ascii "\n")
+-- 02, E11: an answer that is declined has "zeros" (`told`)
+unfoldable pub billed : Page → Result Bill Refusal → Page
+billed p answer = add_of (add_of (numbered (numbered p (answer_number answer)) (told answer).units) (decimal_of (told answer).pence)) (ascii "\n")
 
 abbrev pub answered : Page → Asked → Page
 answered p (Time ms) = billed p (bill_of ms)

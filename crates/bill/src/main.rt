@@ -54,10 +54,11 @@ fn read_all(
     out: &mut [u8],
 ) -> Desk {
     let mut d = desk;
-    let mut left = u64::MAX;
-    while left > 0 && d.open {
+    for _ in 0..u64::MAX {
+        if !d.open {
+            break;
+        }
         d = read_some(input, output, errors, d, out);
-        left -= 1;
     }
     d
 }
@@ -88,10 +89,8 @@ fn take_all(
     out: &mut [u8],
 ) -> Desk {
     let mut d = desk;
-    let mut i: usize = 0;
-    while i < bytes.len() {
-        d = take(output, errors, d, bytes[i], out);
-        i += 1;
+    for byte in bytes {
+        d = take(output, errors, d, *byte, out);
     }
     d
 }

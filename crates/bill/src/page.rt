@@ -4,7 +4,11 @@ ghost use Rattle.text.specs.Text.{page_of};
 ghost use Rattle.bill.specs.Page.{numbered, billed, answered};
 
 use crate::lines::Asked;
+use refusal::Refusal;
 use tariff::Bill;
+
+// What is told of a call that is not charged.
+const NOTHING: Bill = Bill { units: 0, pence: 0 };
 
 // What the call costs, or nothing where the line asks for nothing.
 pub fn put_answer(out: &mut [u8], at: usize, asked: Asked) -> usize
@@ -17,12 +21,13 @@ pub fn put_answer(out: &mut [u8], at: usize, asked: Asked) -> usize
     }
 }
 
-fn put_bill(out: &mut [u8], at: usize, bill: Bill) -> usize
-    ensures { page_of out.new result ≡ billed (page_of out.old at) bill }
+#[tactic(auto, unfolding(crate::specs::Page::billed))]
+fn put_bill(out: &mut [u8], at: usize, answer: Result<Bill, Refusal>) -> usize
+    ensures { page_of out.new result ≡ billed (page_of out.old at) answer }
 {
-    let refusal = bill.refusal;
-    let number = refusal.number();
-    let units = put_number(out, at, number as u64);
+    let number = refusal::answer_number(&answer);
+    let bill = answer.unwrap_or(NOTHING);
+    let units = put_number(out, at, u64::from(number));
     let pence = put_number(out, units, bill.units);
     let end = text::put_decimal(out, pence, bill.pence);
     text::put_byte(out, end, b'\n')

@@ -9,9 +9,11 @@ use native.Mathlib.Nat.{le_refl, le_trans, lt_of_lt_of_le, lt_of_le_of_lt, eq-or
 use native.Mathlib.Omega.{arith}
 use borrow.Author.Tests.{leb-true, leb-false, le-leb, lt-leb, le-ltb, lt-ltb}
 use lib.Dec.{leb}
-use Rattle.tariff.specs.declared.Refusal.TheVariants.{TooLong, Start}
+use Rattle.std.specs.Prelude.{Result, Ok, Err}
+use Rattle.refusal.specs.declared.Refusal.{Refusal}
+use Rattle.refusal.specs.declared.Refusal.TheVariants.{TooLong, Start}
 use Rattle.tariff.specs.declared.Bill.{Bill}
-use Rattle.tariff.specs.Tariff.{unit, unit_pence, longest_call, charged, declined, units_begun, bill_of}
+use Rattle.tariff.specs.Tariff.{unit, unit_pence, longest_call, charged, told, units_begun, bill_of}
 use Rattle.tariff.specs.Hours.{week_seconds, week, day, peak_begins, peak_ends, is_peak, unit_by, unit_at, next_unit, bought, buying, units_bought, Bought, bill_from, InsidePeak}
 use Rattle.tariff.proofs.Plain.{begun-least, charged-bill}
 
@@ -182,37 +184,37 @@ module _ (start ms : ℕ) (p : InsidePeak start ms) where
       all k l = peak-bought k (λ j q. short j (lt_of_lt_of_le q l))
 
 -- ---- the bill
-pub long-bill : (ms start : ℕ) → longest_call < ms → bill_from ms start ≡ declined TooLong
+pub long-bill : (ms start : ℕ) → longest_call < ms → bill_from ms start ≡ Err TooLong
 unfolding bill_from
 long-bill ms start h = rw (lt-ltb _ _ h)
 
-pub late-bill : (ms start : ℕ) → ms ≤ longest_call → week_seconds ≤ start → bill_from ms start ≡ declined Start
+pub late-bill : (ms start : ℕ) → ms ≤ longest_call → week_seconds ≤ start → bill_from ms start ≡ Err Start
 unfolding bill_from
 late-bill ms start h l = rw (le-ltb _ _ h, le-leb _ _ l)
 
-pub bought-bill : (ms start : ℕ) → ms ≤ longest_call → start < week_seconds → bill_from ms start ≡ charged (units_bought start ms)
+pub bought-bill : (ms start : ℕ) → ms ≤ longest_call → start < week_seconds → bill_from ms start ≡ Ok (charged (units_bought start ms))
 unfolding bill_from
 bought-bill ms start h l = rw (le-ltb _ _ h, lt-leb _ _ l)
 
 -- what `charge_from` promises of an answer that is the bill's
 module _ (ms start : ℕ) where
-  from-bought : ms ≤ longest_call → start < week_seconds → Bought start ms (bill_from ms start).units
+  from-bought : ms ≤ longest_call → start < week_seconds → Bought start ms (told (bill_from ms start)).units
   from-bought h l = rw (bought-bill ms start h l) (bought-units start ms)
 
-  from-rises : (longer : ℕ) → ms ≤ longer → longer ≤ longest_call → (bill_from ms start).pence ≤ (bill_from longer start).pence
+  from-rises : (longer : ℕ) → ms ≤ longer → longer ≤ longest_call → (told (bill_from ms start)).pence ≤ (told (bill_from longer start)).pence
   from-rises longer h l = go (leb week_seconds start) refl
     where
       times : (a b : ℕ) → a ≤ b → a * unit_pence ≤ b * unit_pence
       times a b h = omega arith
 
-      go : (t : Bool) → leb week_seconds start ≡ t → (bill_from ms start).pence ≤ (bill_from longer start).pence
+      go : (t : Bool) → leb week_seconds start ≡ t → (told (bill_from ms start)).pence ≤ (told (bill_from longer start)).pence
       go true e = rw (late-bill ms start (le_trans h l) (leb-true _ _ e), late-bill longer start l (leb-true _ _ e)) zero-le
       go false e =
           rw (bought-bill ms start (le_trans h l) (leb-false _ _ e), bought-bill longer start l (leb-false _ _ e))
           (times (units_bought start ms) (units_bought start longer) (no-fewer start ms longer _ _ h (bought-units start ms) (bought-units start longer)))
 
   from-peak : InsidePeak start ms → bill_from ms start ≡ bill_of ms
-  from-peak p = bought-bill ms start (short p.weekday p.begins p.ends) (early p.weekday p.is_weekday p.ends) ∙ ap charged (peak-units start ms p) ∙ sym (charged-bill ms (short p.weekday p.begins p.ends))
+  from-peak p = bought-bill ms start (short p.weekday p.begins p.ends) (early p.weekday p.is_weekday p.ends) ∙ ap (λ (n : ℕ). Ok (charged n)) (peak-units start ms p) ∙ sym (charged-bill ms (short p.weekday p.begins p.ends))
     where
       short : (d : ℕ) → d * day + peak_begins ≤ start * 1000 → start * 1000 + ms ≤ d * day + peak_ends → ms ≤ longest_call
       short d b e = omega arith
@@ -220,12 +222,12 @@ module _ (ms start : ℕ) where
       early : (d : ℕ) → d < 5 → start * 1000 + ms ≤ d * day + peak_ends → start < week_seconds
       early d D e = omega arith
 
-  pub promised-from : (r : Bill) → r ≡ bill_from ms start → (r ≡ bill_from ms start) × ((ms ≤ longest_call → start < week_seconds → Bought start ms r.units) × (((longer : ℕ) → ms ≤ longer → longer ≤ longest_call → r.pence ≤ (bill_from longer start).pence) × (InsidePeak start ms → r ≡ bill_of ms)))
+  pub promised-from : (r : Result Bill Refusal) → r ≡ bill_from ms start → (r ≡ bill_from ms start) × ((ms ≤ longest_call → start < week_seconds → Bought start ms (told r).units) × (((longer : ℕ) → ms ≤ longer → longer ≤ longest_call → (told r).pence ≤ (told (bill_from longer start)).pence) × (InsidePeak start ms → r ≡ bill_of ms)))
   promised-from r e = (e, (λ h l. rw e (from-bought h l), (λ longer h l. rw e (from-rises longer h l), λ p. e ∙ from-peak p)))
 
 -- ---- computed: Monday 07:59:59, 08:00:00, 17:59:59 and 18:00:00, Friday 17:59:59, Sunday 23:59:59, the longest call, one longer, a start past the week
 pub hours-edges : map (λ (b : ℕ × ℕ). bill_from b.0 b.1)
     ((60001, 28799) ∷ (180001, 28799) ∷ (60001, 28800) ∷ (60001, 64799) ∷ (240001, 64799) ∷ (60001, 64800) ∷ (60001, 410399) ∷ (180001, 604799) ∷ (86400001, 604800) ∷ (0, 604800) ∷ (0, 0) ∷ [])
-    ≡ charged 1 ∷ charged 2 ∷ charged 2 ∷ charged 2 ∷ charged 3 ∷ charged 1 ∷ charged 2 ∷ charged 2 ∷ declined TooLong ∷ declined Start ∷ charged 0 ∷ []
+    ≡ Ok (charged 1) ∷ Ok (charged 2) ∷ Ok (charged 2) ∷ Ok (charged 2) ∷ Ok (charged 3) ∷ Ok (charged 1) ∷ Ok (charged 2) ∷ Ok (charged 2) ∷ Err TooLong ∷ Err Start ∷ Ok (charged 0) ∷ []
 unfolding bill_from units_bought buying bought unit_at is_peak
 hours-edges = refl

@@ -1,8 +1,9 @@
 -- 02, E12: peak and cheap hours. "The start is a second of the week, from Monday 00:00."
-use Rattle.std.specs.Prelude.{ℕ, zero, suc, ◌+◌, ◌*◌, ◌/◌, ◌%◌, ◌≤◌, ◌<◌, Bool, true, false, cond, ◌&&◌, leb, ltb}
-use Rattle.tariff.specs.declared.Refusal.TheVariants.{TooLong, Start}
+use Rattle.std.specs.Prelude.{ℕ, zero, suc, ◌+◌, ◌*◌, ◌/◌, ◌%◌, ◌≤◌, ◌<◌, Bool, true, false, cond, ◌&&◌, leb, ltb, Result, Ok, Err}
+use Rattle.refusal.specs.declared.Refusal.{Refusal}
+use Rattle.refusal.specs.declared.Refusal.TheVariants.{TooLong, Start}
 use Rattle.tariff.specs.declared.Bill.{Bill}
-use Rattle.tariff.specs.Tariff.{unit, longest_call, charged, declined}
+use Rattle.tariff.specs.Tariff.{unit, longest_call, charged}
 
 -- a week in seconds, and in milliseconds
 abbrev pub week_seconds : ℕ
@@ -56,13 +57,13 @@ pub record Bought (start ms units : ℕ) : Type 0 where
   pub covers : ms ≤ bought start units
   pub needed : (k : ℕ) → k < units → bought start k < ms
 
--- "after 13, a start of 604,800 or more gives 14, with zeros"
-abbrev pub bill_from_by : (long late : Bool) → ℕ → Bill
-bill_from_by true late units = declined TooLong
-bill_from_by false true units = declined Start
-bill_from_by false false units = charged units
+-- "after 13, a start of 604,800 or more gives 14, with zeros" (`told`)
+abbrev pub bill_from_by : (long late : Bool) → ℕ → Result Bill Refusal
+bill_from_by true late units = Err TooLong
+bill_from_by false true units = Err Start
+bill_from_by false false units = Ok (charged units)
 
-unfoldable pub bill_from : ℕ → ℕ → Bill
+unfoldable pub bill_from : ℕ → ℕ → Result Bill Refusal
 bill_from ms start = bill_from_by (ltb longest_call ms) (leb week_seconds start) (units_bought start ms)
 
 -- "calls inside peak": from the start on, within one of the five peak periods

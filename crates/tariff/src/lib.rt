@@ -1,9 +1,12 @@
 // What a call would have cost, for its connected time. No set is needed.
 #![tactic(auto)]
 
-ghost use Rattle.std.specs.Prelude.{◌≡◌, ℕ, ◌≤◌, ◌<◌};
-ghost use Rattle.tariff.specs.Tariff.{longest_call, bill_refusal_number, declined, bill_of, Least};
+ghost use Rattle.std.specs.Prelude.{◌≡◌, ℕ, ◌≤◌, ◌<◌, MatchResult};
+ghost use Rattle.refusal.specs.declared.Refusal.TheVariants.{TooLong};
+ghost use Rattle.tariff.specs.Tariff.{longest_call, charged, told, bill_of, Least};
 ghost use Rattle.tariff.specs.Hours.{week_seconds, is_peak, unit_at, units_bought, Bought, bill_from, InsidePeak};
+
+use refusal::Refusal;
 
 // In milliseconds.
 const UNIT: u64 = 60_000;
@@ -26,82 +29,55 @@ const PEAK_BEGINS: u64 = 28_800_000;
 
 const PEAK_ENDS: u64 = 64_800_000;
 
-// Why a call is not charged, if it is not.
-#[derive(Clone, Copy)]
-pub enum Refusal {
-    Accepted,
-    TooLong,
-    Start,
-}
-
 #[derive(Clone, Copy)]
 pub struct Bill {
-    pub refusal: Refusal,
     pub units: u64,
     pub pence: u64,
 }
 
-impl Refusal {
-    // 02's number.
-    pub fn number(self) -> u8
-        ensures { result ≡ bill_refusal_number self }
-    {
-        match self {
-            Refusal::Accepted => 0,
-            Refusal::TooLong => 13,
-            Refusal::Start => 14,
-        }
-    }
-}
-
 // The plain tariff. Its units cover the time and no fewer do, and a longer call never costs less.
-pub fn charge(ms: u64) -> Bill
+pub fn charge(ms: u64) -> Result<Bill, Refusal>
     ensures value { result ≡ bill_of ms }
-    ensures least { ms ≤ longest_call → Least result.units ms }
-    ensures by_index { (longer : ℕ) → ms ≤ longer → longer ≤ longest_call → result.pence ≤ (bill_of longer).pence }
+    ensures least { ms ≤ longest_call → Least (told result).units ms }
+    ensures by_index { (longer : ℕ) → ms ≤ longer → longer ≤ longest_call → (told result).pence ≤ (told (bill_of longer)).pence }
 {
-    if ms > LONGEST_CALL {
-        return decline(Refusal::TooLong);
-    }
-    let units = (ms + (UNIT - 1)) / UNIT;
-    Bill {
-        refusal: Refusal::Accepted,
-        units,
-        pence: units * UNIT_PENCE,
-    }
-}
-
-// No units and no pence.
-fn decline(cause: Refusal) -> Bill
-    ensures { result ≡ declined cause }
-{
-    Bill {
-        refusal: cause,
-        units: 0,
-        pence: 0,
-    }
+    check_length(ms)?;
+    Ok(charged(ms.div_ceil(UNIT)))
 }
 
 // Peak and cheap hours, from a second of the week. The units bought cover the time and all but the last do not, a longer
 // call from the same start never costs less, and inside peak it is the plain tariff.
-pub fn charge_from(ms: u64, start: u64) -> Bill
+pub fn charge_from(ms: u64, start: u64) -> Result<Bill, Refusal>
     ensures value { result ≡ bill_from ms start }
-    ensures bought { ms ≤ longest_call → start < week_seconds → Bought start ms result.units }
-    ensures by_index { (longer : ℕ) → ms ≤ longer → longer ≤ longest_call → result.pence ≤ (bill_from longer start).pence }
+    ensures bought { ms ≤ longest_call → start < week_seconds → Bought start ms (told result).units }
+    ensures by_index { (longer : ℕ) → ms ≤ longer → longer ≤ longest_call → (told result).pence ≤ (told (bill_from longer start)).pence }
     ensures value_2 { InsidePeak start ms → result ≡ bill_of ms }
 {
-    if LONGEST_CALL < ms {
-        return decline(Refusal::TooLong);
-    }
+    check_length(ms)?;
     if start >= WEEK_SECONDS {
-        return decline(Refusal::Start);
+        return Err(Refusal::Start);
     }
-    let units = buy(ms, start);
-    let pence = units * UNIT_PENCE;
+    Ok(charged(buy(ms, start)))
+}
+
+// Either tariff has a longest call.
+fn check_length(ms: u64) -> Result<(), Refusal>
+    ensures { MatchResult result (λ _. ms ≤ longest_call) (λ cause. (longest_call < ms) × (cause ≡ TooLong)) }
+{
+    if ms > LONGEST_CALL {
+        return Err(Refusal::TooLong);
+    }
+    Ok(())
+}
+
+// No call has more units than milliseconds.
+fn charged(units: u64) -> Bill
+    requires { units ≤ longest_call }
+    ensures { result ≡ charged units }
+{
     Bill {
-        refusal: Refusal::Accepted,
         units,
-        pence,
+        pence: units * UNIT_PENCE,
     }
 }
 
@@ -111,8 +87,8 @@ fn buy(ms: u64, start: u64) -> u64
     ensures value { result ≡ units_bought start ms }
     ensures upper_bound { result ≤ longest_call }
 {
-    let mut bought: u64 = 0;
-    let mut units: u64 = 0;
+    let mut bought = 0;
+    let mut units = 0;
     while bought < ms {
         let time = (start * 1000 + bought) % WEEK;
         bought += unit_at(time);
@@ -122,19 +98,18 @@ fn buy(ms: u64, start: u64) -> u64
 }
 
 // The length of a unit that starts at a millisecond of the week.
+#[tactic(auto, unfolding(crate::specs::Hours::unit_at))]
 fn unit_at(time: u64) -> u64
     ensures { result ≡ unit_at time }
 {
-    if is_peak(time) {
-        return UNIT;
-    }
-    CHEAP_UNIT
+    if is_peak(time) { UNIT } else { CHEAP_UNIT }
 }
 
+#[tactic(auto, unfolding(crate::specs::Hours::is_peak))]
 fn is_peak(time: u64) -> bool
     ensures { result ≡ is_peak time }
 {
     let weekday = time / DAY;
     let hour = time % DAY;
-    (weekday < 5) & ((PEAK_BEGINS <= hour) & (hour < PEAK_ENDS))
+    weekday < 5 && (PEAK_BEGINS..PEAK_ENDS).contains(&hour)
 }

@@ -10,12 +10,6 @@ use Rattle.tariff.proofs.buy.Goals as goal
 pub loop-bought-init : goal.loop-bought-init
 loop-bought-init c = buying-none c.args.start c.args.ms
 
-pub overflow_mul-time : goal.overflow_mul-time
-overflow_mul-time c = omega (arith, c.requires.1)
-
-pub overflow_add-time : goal.overflow_add-time
-overflow_add-time c = omega (arith, c.loop-bought-test.true, c.requires.0, c.requires.1)
-
 pub overflow_add-bought : goal.overflow_add-bought
 overflow_add-bought c = omega (arith, c.loop-bought-test.true, c.requires.0, subst (λ (z : ℕ). z ≤ 180000) (sym c.unit_at-bought.ensures) (unit-high _))
 

@@ -1,12 +1,16 @@
 -- `charge` meets its contract: above the longest call it declines, else it is the units begun; the laws of the plain tariff give the rest. Assumes nothing.
-use mathlib.Core.Path.{sym, ◌∙◌}
-use Rattle.tariff.specs.Tariff.{units_begun}
-use Rattle.tariff.proofs.Plain.{charged-bill, declined-bill, promised}
+use mathlib.Core.Path.{◌≡◌, sym, ap, ◌∙◌}
+use Rattle.std.specs.Prelude.{Ok}
+use Rattle.std.proofs.lemmas.Result.{err_from_is_err_and}
+use Rattle.tariff.specs.Tariff.{charged, bill_of}
+use Rattle.tariff.proofs.Plain.{begun-ceiling, charged-bill, declined-bill, promised}
 use Rattle.tariff.proofs.charge.Goals as goal
 
-pub returns-then-ms-gt-LONGEST_CALL : goal.returns-then-ms-gt-LONGEST_CALL
-returns-then-ms-gt-LONGEST_CALL c = let ms = c.args.ms in let p = promised ms _ (c.decline.ensures ∙ sym (declined-bill ms c.if-ms-gt-LONGEST_CALL.true)) in record { value = p.0; least = p.1.0; by_index = p.1.1 }
+pub returns-in_err-check_length-clause-value : goal.returns-in_err-check_length-clause-value
+returns-in_err-check_length-clause-value c = let p = err_from_is_err_and c.from_residual.result c.from_residual.ensures.1 in let h = c.in_err-check_length.ensures in
+    rw (p.1, p.2, h.1) (sym (declined-bill c.args.ms h.0))
 
 pub returns : goal.returns
-unfolding units_begun
-returns c = let ms = c.args.ms in let p = promised ms _ (sym (charged-bill ms c.if-ms-gt-LONGEST_CALL.false)) in record { value = p.0; least = p.1.0; by_index = p.1.1 }
+returns c = let ms = c.args.ms in
+    let v : Ok c.charged.result ≡ bill_of ms = ap Ok (c.charged.ensures ∙ ap charged (c.div_ceil.ensures ∙ begun-ceiling ms)) ∙ sym (charged-bill ms c.in_ok-check_length.ensures) in
+    let p = promised ms _ v in record { value = p.0; least = p.1.0; by_index = p.1.1 }
