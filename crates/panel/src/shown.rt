@@ -1,6 +1,6 @@
 // A line's call on the set, with what is printed of its answer.
 ghost use Rattle.std.specs.Prelude.{◌≡◌, ◌*◌, ◌≤◌, true, ◌&&◌, leb, eqb, length};
-ghost use Rattle.text.specs.Text.{page_of, add_of};
+ghost use Rattle.text.specs.Page.{add_of};
 ghost use Rattle.set.specs.Set.{made, typed, lapsed, forced, fill, byte_queued};
 ghost use Rattle.set.specs.Refusals.{either};
 ghost use Rattle.set.specs.String.{typed_all};
@@ -11,6 +11,7 @@ ghost use Rattle.panel.specs.Wall.{shown_of, nothing_shown, made_shown, typed_sh
 
 use crate::bits;
 use console::lines::Call;
+use console::stream::Answers;
 use deframe::Reading;
 use keys::Key;
 use refusal::Refusal;
@@ -84,15 +85,13 @@ pub fn after(
     }
 }
 
-// Writes the line, if there is one.
-pub fn put_line(out: &mut [u8], at: usize, shown: Shown) -> usize
-    ensures { page_of out.new result ≡ add_of (page_of out.old at) (line_of shown) }
+// Puts the line on the page, if there is one.
+pub fn put_line(answers: &mut Answers, shown: Shown)
+    ensures { answers.new ≡ add_of answers.old (line_of shown) }
 {
-    let report = shown.report;
     if shown.prints {
-        return report::put_report(out, at, report);
+        report::put_report(answers, shown.report);
     }
-    at
 }
 
 fn made(rate: u32) -> Shown
@@ -108,11 +107,10 @@ fn made(rate: u32) -> Shown
 fn typed(set: Set, byte: u8, carrier: bool, n: usize, outbox: &mut [u8]) -> Shown
     ensures { result ≡ if_room (leb n (length outbox.old)) set (typed_shown (typed set byte carrier n)) }
 {
-    let from: usize = 0;
     if n > outbox.len() {
         return nothing(set);
     }
-    feed(set, byte, carrier, &mut outbox[from..n])
+    feed(set, byte, carrier, &mut outbox[..n])
 }
 
 fn feed(set: Set, byte: u8, carrier: bool, outbox: &mut [u8]) -> Shown
@@ -149,17 +147,17 @@ fn forced(set: Set) -> Shown
 fn filled(set: Set, n: usize, samples: &mut [f32]) -> Shown
     ensures { result ≡ if_room (leb n (length samples.old)) set (filled_shown n (fill set n)) }
 {
-    let from: usize = 0;
     if n > samples.len() {
         return nothing(set);
     }
-    fill(set, &mut samples[from..n])
+    fill(set, &mut samples[..n])
 }
 
 fn fill(set: Set, samples: &mut [f32]) -> Shown
     ensures { result ≡ filled_shown (length samples.old) (fill set (length samples.old)) }
 {
-    blank(samples);
+    // A value that no call writes shows which samples a refused fill leaves alone.
+    samples.fill(1.23);
     let n = samples.len();
     let a = set.process_out(samples);
     let next = a.set;
@@ -172,15 +170,6 @@ fn fill(set: Set, samples: &mut [f32]) -> Shown
         Second::Filled { n, key },
         true,
     )
-}
-
-// A value that no call writes shows which samples a refused fill leaves alone.
-fn blank(samples: &mut [f32]) {
-    let mut i: usize = 0;
-    while i < samples.len() {
-        samples[i] = 1.23;
-        i += 1;
-    }
 }
 
 // The cue leaves the set as it was.
@@ -212,20 +201,13 @@ fn typed_all(
 ) -> Shown
     ensures { result ≡ if_room (leb n (length outbox.old) && leb m (length codes.old)) set (string_shown (length string.now) (typed_all set string.now carrier n m)) }
 {
-    let from: usize = 0;
     if n > outbox.len() {
         return nothing(set);
     }
     if m > codes.len() {
         return nothing(set);
     }
-    feed_all(
-        set,
-        string,
-        carrier,
-        &mut outbox[from..n],
-        &mut codes[from..m],
-    )
+    feed_all(set, string, carrier, &mut outbox[..n], &mut codes[..m])
 }
 
 fn feed_all(set: Set, string: &[u8], carrier: bool, outbox: &mut [u8], codes: &mut [u8]) -> Shown

@@ -46,6 +46,7 @@ impl<const N: usize> Page<N> {
     pub fn text(&self) -> &[u8]
         ensures value { result.now ≡ self.now.text }
         ensures in_bounds { length result.now ≤ N }
+        ensures room { self.now.room ≡ N }
     {
         &self.bytes[..self.end]
     }
