@@ -5,19 +5,21 @@ use Rattle.deframe.proofs.Taking.{taking-on, taking-byte, taking-stops, taking-e
 use Rattle.deframe.proofs.Resumed.{after-ten-ones}
 use Rattle.deframe.proofs.Joined.{one-call}
 use Rattle.deframe.proofs.Deframer.read.Goals as goal
-use Rattle.deframe.proofs.Deframer.read.Goals.{in-Some+then-given-out, in_default}
+use Rattle.deframe.proofs.Deframer.read.Goals.{in-Some+in-Some-put, in_default}
 
-pub returns-else-given-out : goal.returns-else-given-out
-returns-else-given-out c =
-    let e = taking-stops _ _ _ _ _ _ _ c.loop-taken.invariant c.loop-taken-test.true _ c.is_mark.ensures _ c.push_bit.ensures.place _ (sym c.in-Some.ensures.byte) c.if-given-out.false in
-    record { value = e.0; out_after = e.1; after_ten_ones = after-ten-ones _; one_call = one-call _ }
+pub returns-in-None : goal.returns-in-None
+returns-in-None c =
+    let full = c.in-None.ensures.none in
+    let e = taking-stops _ _ _ _ _ _ _ c.loop-taken.invariant c.loop-taken-test.true _ c.is_mark.ensures _ c.push_bit.ensures.place _ (sym c.in-Some.ensures.byte) full.0 in
+    record { value = e.0; out_after = full.1 ∙ e.1; after_ten_ones = after-ten-ones _; one_call = one-call _ }
 
 pub loop-taken-preserved : goal.loop-taken-preserved
 loop-taken-preserved c =
     elim c.match-push_bit.branch [
-      | in-Some+then-given-out w ↦
-          rw (w.out-is, w.place-is, w.given-is)
-          (taking-byte _ _ _ _ _ _ _ c.loop-taken.invariant c.loop-taken-test.true _ c.is_mark.ensures _ c.push_bit.ensures.place _ (sym w.in-Some.ensures.byte) w.if-given-out.true)
+      | in-Some+in-Some-put w ↦
+          let put = w.in-Some-put.ensures.some in
+          rw (w.out-is, w.place-is, w.given-is, put.1, put.2)
+          (taking-byte _ _ _ _ _ _ _ c.loop-taken.invariant c.loop-taken-test.true _ c.is_mark.ensures _ c.push_bit.ensures.place _ (sym w.in-Some.ensures.byte) put.0)
       | in_default w ↦
           rw (w.out-is, w.place-is, w.given-is)
           (taking-on _ _ _ _ _ _ _ c.loop-taken.invariant c.loop-taken-test.true _ c.is_mark.ensures _ c.push_bit.ensures.place (sym c.push_bit.ensures.byte ∙ w.in_default.is))
