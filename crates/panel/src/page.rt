@@ -1,8 +1,8 @@
 // `tap`'s second line, written on a page.
 use crate::shown::{Second, Shown};
 use console::stream::Answers;
-use deframe::Unframed;
 use keys::Lit;
+use refusal::Refusal;
 use set::Set;
 
 // What the call's second line tells.
@@ -69,11 +69,11 @@ fn put_key(answers: &mut Answers, key: Lit) {
 }
 
 // The byte of a frame.
-fn put_frame(answers: &mut Answers, answer: Unframed) {
+fn put_frame(answers: &mut Answers, answer: Result<u8, Refusal>) {
     answers.put(b"# byte=");
     match answer {
-        Unframed::Byte(byte) => answers.put_hex(byte as u64, 2),
-        Unframed::BadFrame => answers.put_byte(b'-'),
+        Ok(byte) => answers.put_hex(byte as u64, 2),
+        Err(_) => answers.put_byte(b'-'),
     }
 }
 

@@ -12,8 +12,9 @@ ghost use Rattle.panel.specs.Wall.{shown_of, nothing_shown, made_shown, typed_sh
 use crate::bits;
 use console::lines::Call;
 use console::stream::Answers;
-use deframe::{Reading, Unframed};
+use deframe::Reading;
 use keys::Lit;
+use refusal::Refusal;
 use reply::Reply;
 use report::Report;
 use set::Set;
@@ -34,7 +35,7 @@ pub enum Second {
     // how many bits were taken, and how many bytes of the outbox filled
     Bits { taken: usize, given: usize },
     // a frame's byte, or none
-    Frame(Unframed),
+    Frame(Result<u8, Refusal>),
     // the key that is kept
     Lit,
 }
@@ -256,12 +257,12 @@ fn framed(set: Set, string: &[u8]) -> Shown
     nothing(set)
 }
 
-fn unframed(set: Set, answer: Unframed) -> Shown
+fn unframed(set: Set, answer: Result<u8, Refusal>) -> Shown
     ensures { result ≡ frame_shown true set answer }
 {
     show(
         set,
-        answer.number(),
+        refusal::answer_number(&answer),
         Reply::None,
         Second::Frame(answer),
         true,
