@@ -11,6 +11,7 @@ use std::env::Env;
 use std::io;
 use std::io::Write;
 use std::rt::Files;
+use text::Page;
 
 fn main(rt: HostRuntime) {
     let errors = rt.stderr();
@@ -71,10 +72,10 @@ fn write(rt: &impl Files, errors: &impl Print, digits: &[u8], rate: u32, path: &
 // Writes the header and, in buffers, the T samples behind it.
 fn record(file: &mut impl Write, digits: &[u8], rate: u32) -> io::Result<()> {
     let mut samples = [0i16; 4096];
-    let mut bytes = [0u8; 8192];
+    let mut bytes = Page::new();
     let total = plan::total_samples(digits, rate);
     let header = wav::header(total, rate);
-    file.write_all(&header)?;
+    file.write_all(header.text())?;
     record_all(file, digits, rate, total, &mut samples, &mut bytes)
 }
 
@@ -84,7 +85,7 @@ fn record_all(
     rate: u32,
     total: u32,
     samples: &mut [i16],
-    bytes: &mut [u8],
+    bytes: &mut Page<8192>,
 ) -> io::Result<()> {
     let mut pass: u32 = 0;
     while pass < total {
@@ -105,7 +106,7 @@ fn record_part(
     pass: u32,
     count: usize,
     samples: &mut [i16],
-    bytes: &mut [u8],
+    bytes: &mut Page<8192>,
 ) -> io::Result<()> {
     let none: usize = 0;
     if count > samples.len() {
@@ -115,11 +116,9 @@ fn record_part(
     if refusal > 0 {
         return Err(refused());
     }
-    let end = wav::put_samples(bytes, &samples[none..count]);
-    if end <= bytes.len() {
-        return file.write_all(&bytes[none..end]);
-    }
-    Err(refused())
+    bytes.clear();
+    wav::put_samples(bytes, &samples[none..count]);
+    file.write_all(bytes.text())
 }
 
 // The samples of a call that its plan takes are refused none.
