@@ -10,7 +10,7 @@ use Rattle.nco.specs.declared.Nco.{Nco}
 use Rattle.nco.specs.Nco.{phase_in_range}
 use Rattle.nco.specs.Lent.{lent_sample, lent_nco}
 use Rattle.ascii.specs.Front.{put_length}
-use Rattle.keys.specs.declared.Lit.TheVariants as lit
+use Rattle.std.specs.Prelude.{None}
 use Rattle.reply.specs.Texts.{text_of}
 use Rattle.set.specs.declared.Set.{Set}
 use Rattle.set.specs.declared.Made.{Made}
@@ -84,7 +84,7 @@ pub record Answers (s : Set) : Type 0 where
   pub cue : (p : ℕ)
       → cue.Asked tt (s, (p, tt))
       × ((answer : Cued) → cue.Learnt tt (s, (p, tt)) answer (s, (p, tt))
-      → (answer.refusal ≡ cue_cause s p) × ((cue_refusal_number answer.refusal ≡ 0 → ⊥) → (answer.sample ≡ 0) × (answer.key ≡ lit.None)))
+      → (answer.refusal ≡ cue_cause s p) × ((cue_refusal_number answer.refusal ≡ 0 → ⊥) → (answer.sample ≡ 0) × (answer.key ≡ None)))
   -- 02, E1: number 4 never occurs: no refusal has it, so that no call on any set answers it
   pub never4 : ((refusal : Refusal) → refusal_number refusal ≡ 4 → ⊥) × ((refusal : cue_refusal.Refusal) → cue_refusal_number refusal ≡ 4 → ⊥)
   -- 02, E10: nor does number 5

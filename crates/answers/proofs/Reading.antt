@@ -15,7 +15,7 @@ use Rattle.nco.specs.declared.Nco.{Nco}
 use Rattle.nco.specs.Nco.{phase_in_range}
 use Rattle.nco.specs.Lent.{lent_sample, lent_nco}
 use Rattle.ascii.specs.Front.{put_length}
-use Rattle.keys.specs.declared.Lit.TheVariants as lit
+use Rattle.std.specs.declared.option.Option.TheVariants as option
 use Rattle.reply.specs.declared.Reply.TheVariants.{None}
 use Rattle.reply.specs.Texts.{text_of}
 use Rattle.set.specs.declared.Set.{Set}
@@ -70,7 +70,7 @@ module _ {s : Set} {cause : Refusal} {e : Event} (b : ByCause s cause e) where
     pub declined-sent : e.sent ≡ 0
     declined-sent = unchanged.sent
 
-    pub declined-key : e.key ≡ lit.None
+    pub declined-key : e.key ≡ option.None
     declined-key = unchanged.key
 
 -- and a string by its own
@@ -155,7 +155,7 @@ module _ (s : Set) (r : Bool) (d : is-sound.Learnt tt (s, tt) r (s, tt)) where
   pub cue-answers : (p : ℕ)
       → cue.Asked tt (s, (p, tt))
       × ((answer : Cued) → cue.Learnt tt (s, (p, tt)) answer (s, (p, tt))
-      → (answer.refusal ≡ cue_cause s p) × ((cue_refusal_number answer.refusal ≡ 0 → ⊥) → (answer.sample ≡ 0) × (answer.key ≡ lit.None)))
+      → (answer.refusal ≡ cue_cause s p) × ((cue_refusal_number answer.refusal ≡ 0 → ⊥) → (answer.sample ≡ 0) × (answer.key ≡ option.None)))
   cue-answers p = (tt, λ answer d. told.cue p answer d.0)
 
   pub never-4 : ((refusal : Refusal) → refusal_number refusal ≡ 4 → ⊥) × ((refusal : cue_refusal.Refusal) → cue_refusal_number refusal ≡ 4 → ⊥)

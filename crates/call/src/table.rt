@@ -1,7 +1,7 @@
 // What is printed of a call: a line for each stage and for each digit, its length T, when the line was up, and
 // when a text was sent.
 use crate::play;
-use keys::Lit;
+use keys::Key;
 use set::Set;
 use text::Page;
 
@@ -97,20 +97,20 @@ fn put_keys(page: &mut Table, dialled: Set, keys: &[u8], len: usize) {
 }
 
 // A digit, where its key stands, and when it begins.
-fn put_key(page: &mut Table, digit: u8, key: Lit, sample: u64, rate: u32) {
+fn put_key(page: &mut Table, digit: u8, key: Option<Key>, sample: u64, rate: u32) {
     put_digit(page, digit, key);
     put_first(page, sample, rate);
 }
 
 // A digit, and the row and the column of its key.
-fn put_digit(page: &mut Table, digit: u8, key: Lit) {
+fn put_digit(page: &mut Table, digit: u8, key: Option<Key>) {
     put_right(page, &[digit], 5);
     match key {
-        Lit::Key { row, column } => {
+        Some(Key { row, column }) => {
             put_number(page, row as u64, 4);
             put_number(page, column as u64, 1);
         }
-        Lit::None => put_right(page, b"-", 5),
+        None => put_right(page, b"-", 5),
     }
 }
 

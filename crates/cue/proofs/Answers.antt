@@ -6,8 +6,8 @@ use mathlib.Core.Bool.{true}
 use lib.Dec.{lit≤}
 use Rattle.math.specs.Float.{of_nat}
 use Rattle.nco.specs.Nco.{step_of}
-use Rattle.keys.specs.declared.Lit.{Lit}
-use Rattle.keys.specs.declared.Lit.TheVariants as lit
+use Rattle.std.specs.Prelude.{Option, None}
+use Rattle.keys.specs.declared.Key.{Key}
 use Rattle.stage.specs.declared.StageState.TheVariants.{Dialling}
 use Rattle.stage.specs.declared.StageState.{StageState}
 use Rattle.stage.specs.Stage.{key_of}
@@ -36,13 +36,13 @@ use Rattle.cue.specs.Cue.{cue_refusal_number, cue_cause, cued_by, cued}
 use Rattle.cue.proofs.Cueing.{accepted-cued, declined-cued}
 use Rattle.cue.proofs.cue.Reads as cue
 
-refusal_is : (c : Refusal) (m : ℕ) (key : Lit) → (cued_by c m key).refusal ≡ c
+refusal_is : (c : Refusal) (m : ℕ) (key : Option Key) → (cued_by c m key).refusal ≡ c
 refusal_is Accepted m key = refl
 refusal_is Unsound m key = refl
 refusal_is Position m key = refl
 
 pub cued-answers : (s : Set) (p : ℕ) (answer : Cued) → answer ≡ cued s p
-    → (answer.refusal ≡ cue_cause s p) × ((cue_refusal_number answer.refusal ≡ 0 → ⊥) → (answer.sample ≡ 0) × (answer.key ≡ lit.None))
+    → (answer.refusal ≡ cue_cause s p) × ((cue_refusal_number answer.refusal ≡ 0 → ⊥) → (answer.sample ≡ 0) × (answer.key ≡ None))
 unfolding cued
 cued-answers s p answer is =
     let refused : answer.refusal ≡ cue_cause s p = ap (λ (c : Cued). c.refusal) is ∙ refusal_is (cue_cause s p) _ _ in
@@ -57,7 +57,7 @@ module _ (s : Set) (p : ℕ) (answer : Cued) (d : cue.Learnt tt (s, (p, tt)) ans
   unfolding cued
   refused = ap (λ (c : Cued). c.refusal) cue-is ∙ refusal_is (cue_cause s p) _ _
 
-  pub cue-answers : (answer.refusal ≡ cue_cause s p) × ((cue_refusal_number answer.refusal ≡ 0 → ⊥) → (answer.sample ≡ 0) × (answer.key ≡ lit.None))
+  pub cue-answers : (answer.refusal ≡ cue_cause s p) × ((cue_refusal_number answer.refusal ≡ 0 → ⊥) → (answer.sample ≡ 0) × (answer.key ≡ None))
   cue-answers = cued-answers s p answer cue-is
 
   module _ (accepted : cue_refusal_number answer.refusal ≡ 0) where

@@ -10,8 +10,8 @@ use lib.ListN.{length}
 use lib.Seq.{length-take-le}
 use borrow.Author.Tests.{ltb-true, eqb-true, le-leb}
 use Rattle.math.specs.Float.{one}
-use Rattle.keys.specs.declared.Lit.{Lit}
-use Rattle.keys.specs.declared.Lit.TheVariants as lit
+use Rattle.std.specs.Prelude.{Option, None}
+use Rattle.keys.specs.declared.Key.{Key}
 use Rattle.schedule.specs.Time.{samples_in}
 use Rattle.schedule.specs.Length.{click_time, dialling_samples}
 use Rattle.schedule.proofs.Lengths.{dialling-range}
@@ -37,12 +37,12 @@ few-samples zero r h lo hi = lit≤ tt
 few-samples (suc p) r h lo hi = (dialling-range r lo hi (suc p) (le_of_lt h)).1
 
 -- an answer is by its refusal's number
-pub accepted-cued : (c : Refusal) (m : ℕ) (key : Lit) → cue_refusal_number c ≡ 0 → cued_by c m key ≡ record { refusal = c; sample = m; key = key }
+pub accepted-cued : (c : Refusal) (m : ℕ) (key : Option Key) → cue_refusal_number c ≡ 0 → cued_by c m key ≡ record { refusal = c; sample = m; key = key }
 accepted-cued Accepted m key e = refl
 accepted-cued Unsound m key e = absurd (omega arith)
 accepted-cued Position m key e = absurd (omega arith)
 
-pub declined-cued : (c : Refusal) (m : ℕ) (key : Lit) → (cue_refusal_number c ≡ 0 → ⊥) → cued_by c m key ≡ record { refusal = c; sample = 0; key = lit.None }
+pub declined-cued : (c : Refusal) (m : ℕ) (key : Option Key) → (cue_refusal_number c ≡ 0 → ⊥) → cued_by c m key ≡ record { refusal = c; sample = 0; key = None }
 declined-cued Accepted m key e = absurd (e refl)
 declined-cued Unsound m key e = refl
 declined-cued Position m key e = refl

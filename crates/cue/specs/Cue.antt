@@ -1,8 +1,7 @@
 -- 01, "Cue", and 02, E2: for a digit position, the first sample number in that digit's tone; 02, E8: with the digit's key. And the causes for
 -- which it is declined.
-use Rattle.std.specs.Prelude.{ℕ, Bool, true, false, ◌&&◌, ltb, eqb}
-use Rattle.keys.specs.declared.Lit.{Lit}
-use Rattle.keys.specs.declared.Lit.TheVariants as lit
+use Rattle.std.specs.Prelude.{ℕ, Bool, true, false, ◌&&◌, ltb, eqb, Option, None}
+use Rattle.keys.specs.declared.Key.{Key}
 use Rattle.tones.specs.Dial.{dialled_key}
 use Rattle.passage.specs.Cue.{first_in_tone}
 use Rattle.session.specs.Session.{state_number, digits_held}
@@ -31,10 +30,10 @@ unfoldable pub cue_cause : Set → ℕ → Refusal
 cue_cause s p = cause_of_cue (sound s) (cuable s p)
 
 -- sample 0 and no key where it is declined
-abbrev pub cued_by : Refusal → ℕ → Lit → Cued
+abbrev pub cued_by : Refusal → ℕ → Option Key → Cued
 cued_by Accepted m key = record { refusal = Accepted; sample = m; key = key }
-cued_by Unsound m key = record { refusal = Unsound; sample = 0; key = lit.None }
-cued_by Position m key = record { refusal = Position; sample = 0; key = lit.None }
+cued_by Unsound m key = record { refusal = Unsound; sample = 0; key = None }
+cued_by Position m key = record { refusal = Position; sample = 0; key = None }
 
 -- 02, E2: "the cue now gives the first sample of that digit's tone"; 02, E8: and the key of its digit, "none if declined"
 unfoldable pub cued : Set → ℕ → Cued

@@ -11,7 +11,7 @@ ghost use Rattle.passage.specs.Cue.{FirstInTone};
 ghost use Rattle.session.specs.Session.{digits_held};
 ghost use Rattle.cue.specs.Cue.{cue_refusal_number, cue_cause, cued};
 
-use keys::Lit;
+use keys::Key;
 use set::Set;
 
 // Why a cue is declined, if it is.
@@ -27,7 +27,7 @@ pub struct Cued {
     pub refusal: Refusal,
     pub sample: u64,
     // that of the digit
-    pub key: Lit,
+    pub key: Option<Key>,
 }
 
 impl Refusal {
@@ -66,7 +66,7 @@ fn cue_sample(position: u32, rate: u32) -> u64
 }
 
 // The key of the digit at a position.
-fn cue_key(set: Set, position: u32) -> Lit
+fn cue_key(set: Set, position: u32) -> Option<Key>
     requires { set.session.digits.len ≤ 76 }
     ensures { result ≡ dialled_key (digits_held set.session) position true }
 {
@@ -110,6 +110,6 @@ pub fn cue(set: Set, position: u32) -> Cued
     Cued {
         refusal,
         sample: 0,
-        key: Lit::None,
+        key: None,
     }
 }

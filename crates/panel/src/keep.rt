@@ -4,7 +4,7 @@ ghost use Rattle.panel.specs.Wall.{kept_after, lit_after};
 
 use crate::shown::Second;
 use console::lines::Call;
-use keys::Lit;
+use keys::Key;
 use text::Page;
 
 // The string that is kept after a line. A byte more is kept where there is a place for it.
@@ -19,12 +19,12 @@ pub fn after(call: Call, string: &mut Page<300>)
 }
 
 // The key that is lit after a line: a fill answers one, and a set made anew has none yet.
-pub fn lit(was: Lit, second: Second) -> Lit
+pub fn lit(was: Option<Key>, second: Second) -> Option<Key>
     ensures { result ≡ lit_after was second }
 {
     match second {
         Second::Filled { key, .. } => key,
-        Second::Made => Lit::None,
+        Second::Made => None,
         _ => was,
     }
 }

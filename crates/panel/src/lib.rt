@@ -10,7 +10,7 @@ ghost use Rattle.panel.specs.Wall.{read_after, shown_after, kept_after, lit_afte
 use console::lines::{Call, Parser, Pushed};
 use console::stream::{Answers, Program};
 use deframe::Deframer;
-use keys::Lit;
+use keys::Key;
 use set::Set;
 use std::io::Read;
 use text::Page;
@@ -34,7 +34,7 @@ struct Panel {
     // `tap --ext`: the reader's place
     reader: Deframer,
     // and the key that the last fill answered
-    lit: Lit,
+    lit: Option<Key>,
     samples: [f32; 70000],
 }
 
@@ -83,7 +83,7 @@ impl Panel {
             bits,
             string: Page::new(),
             reader: Deframer::new(),
-            lit: Lit::None,
+            lit: None,
             samples: [0.0; 70000],
         }
     }

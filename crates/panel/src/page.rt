@@ -1,7 +1,7 @@
 // `tap`'s second line, written on a page.
 use crate::shown::{Second, Shown};
 use console::stream::Answers;
-use keys::Lit;
+use keys::Key;
 use refusal::Refusal;
 use set::Set;
 
@@ -9,7 +9,7 @@ use set::Set;
 pub fn put_bits(
     answers: &mut Answers,
     shown: Shown,
-    lit: Lit,
+    lit: Option<Key>,
     outbox: &[u8],
     codes: &[u8],
     samples: &[f32],
@@ -58,13 +58,13 @@ fn put_sent(answers: &mut Answers, set: Set, outbox: &[u8], sent: usize) {
 }
 
 // Its row and its column.
-fn put_key(answers: &mut Answers, key: Lit) {
+fn put_key(answers: &mut Answers, key: Option<Key>) {
     match key {
-        Lit::Key { row, column } => {
+        Some(Key { row, column }) => {
             answers.put_decimal(row as u64);
             answers.put_decimal(column as u64);
         }
-        Lit::None => answers.put_byte(b'-'),
+        None => answers.put_byte(b'-'),
     }
 }
 

@@ -13,7 +13,7 @@ use crate::bits;
 use console::lines::Call;
 use console::stream::Answers;
 use deframe::Reading;
-use keys::Lit;
+use keys::Key;
 use refusal::Refusal;
 use reply::Reply;
 use report::Report;
@@ -27,9 +27,9 @@ pub enum Second {
     // the same of a set that was made
     Made,
     // the ring, and how many samples were filled; the key of the last is kept
-    Filled { n: usize, key: Lit },
+    Filled { n: usize, key: Option<Key> },
     // the cue's sample and its key
-    Cued { sample: u64, key: Lit },
+    Cued { sample: u64, key: Option<Key> },
     // the ring, and how many bytes of the outbox and places of the code buffer were filled
     String { sent: usize, places: usize },
     // how many bits were taken, and how many bytes of the outbox filled

@@ -11,7 +11,7 @@ use denote.Ref.{MutBor, at_last}
 use lib.Ieee.{Float}
 use lib.ListN.{length}
 use Rattle.keys.specs.declared.Digits.{Digits}
-use Rattle.keys.specs.declared.Lit.TheVariants as lit
+use Rattle.std.specs.declared.option.Option.TheVariants as option
 use Rattle.reply.specs.declared.Reply.TheVariants.{None}
 use Rattle.at.specs.Processor.{command_mode}
 use Rattle.session.specs.declared.SessionState.{SessionState}
@@ -135,7 +135,7 @@ module _ (s : Set) where
               lent = ap buffer_of (unchanged _ declined _ was);
               reply = refl;
               sent = refl;
-              key = unchanged _ declined _ lit.None;
+              key = unchanged _ declined _ option.None;
             };
       })
 

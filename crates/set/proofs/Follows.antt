@@ -11,8 +11,8 @@ use lib.Ieee.{Float}
 use lib.ListN.{length}
 use borrow.Author.Tests.{ltb-false, eqb-true, eqb-false}
 use Rattle.keys.specs.Keys.{held, digits_of}
-use Rattle.keys.specs.declared.Lit.{Lit}
-use Rattle.keys.specs.declared.Lit.TheVariants as lit
+use Rattle.std.specs.Prelude.{Option, None}
+use Rattle.keys.specs.declared.Key.{Key}
 use Rattle.keys.proofs.Line.{digits-whole, padded-front}
 use Rattle.stage.specs.declared.Stage.{Stage}
 use Rattle.stage.specs.declared.Shown.{Shown}
@@ -91,7 +91,7 @@ InLimits k (fills b) = b ≤ 65536
 InLimits k (queues byte) = is_full k.sending.queue ≡ false
 
 -- what a call does that comes to the entry
-pub record Effect (r : ℕ) (k : Book) (entry : Entry) (next : Set) (refusal : Refusal) (lights : Lit) (left : List Float) : Type 0 where
+pub record Effect (r : ℕ) (k : Book) (entry : Entry) (next : Set) (refusal : Refusal) (lights : Option Key) (left : List Float) : Type 0 where
   pub follows : Follows r (next_book r k entry) next
   pub sound : sound next ≡ true
   pub number : refusal_number refusal ≡ number_of entry
@@ -136,15 +136,15 @@ module _ (r : ℕ) (k : Book) (s : Set) (f : Follows r k s) where
   same-lapse ns carrier = rw (f.processor, f.state)
 
 -- ---- by the cause: a declined call changes neither book nor set
-by-cause : (r : ℕ) (k : Book) (s : Set) → Invariant r k s → (cause : Refusal) (entry : Entry) (next : Set) (key lights : Lit) (left : List Float)
+by-cause : (r : ℕ) (k : Book) (s : Set) → Invariant r k s → (cause : Refusal) (entry : Entry) (next : Set) (key lights : Option Key) (left : List Float)
     → (refusal_number cause ≡ 6 → ⊥)
-    → lights ≡ if_accepted cause key lit.None
+    → lights ≡ if_accepted cause key None
     → (accepted cause ≡ true → Effect r k entry next Accepted key left)
     → Effect r k (unless_declined cause entry) (if_accepted cause next s) cause lights left
 unfolding accepted
 by-cause r k s inv cause entry next key lights left never told taken = go (eqb (refusal_number cause) 0) refl told
   where
-    go : (t : Bool) → eqb (refusal_number cause) 0 ≡ t → lights ≡ either t key lit.None
+    go : (t : Bool) → eqb (refusal_number cause) 0 ≡ t → lights ≡ either t key None
         → Effect r k (either t entry (declined cause)) (either t next s) cause lights left
     go true e l =
         let q = taken e in
@@ -152,10 +152,10 @@ by-cause r k s inv cause entry next key lights left never told taken = go (eqb (
     go false e l = record { follows = inv.follows; sound = inv.sound; number = refl; key = l; limits = never; wrote = tt }
 
 -- a call that has no key has none, accepted or declined
-no_key : (cause : Refusal) → lit.None ≡ if_accepted cause lit.None lit.None
+no_key : (cause : Refusal) → ◌≡◌ {A = Option Key} None (if_accepted cause None None)
 no_key cause = go (accepted cause)
   where
-    go : (t : Bool) → lit.None ≡ either t lit.None lit.None
+    go : (t : Bool) → ◌≡◌ {A = Option Key} None (either t None None)
     go true = refl
     go false = refl
 
@@ -176,12 +176,12 @@ module _ (r : ℕ) (k : Book) (s : Set) (inv : Invariant r k s) where
   good = rw inv.follows.processor at (ranges s inv.sound).processor
 
   pub typing-effect : (byte : ℕ) (carrier : Bool) (n : ℕ)
-      → Effect r k (entry_of k (typing byte carrier n)) (typed s byte carrier n).set (typed s byte carrier n).refusal lit.None []
+      → Effect r k (entry_of k (typing byte carrier n)) (typed s byte carrier n).set (typed s byte carrier n).refusal None []
   unfolding typed typing_cause entry_of
   typing-effect byte carrier n =
       let few = few-typed k.processor good byte (heard_in k.state carrier) n in
       rw inv.sound
-      (by-cause r k s inv (cause_of_typing true (leb 4 n)) _ (byte_taken s byte carrier n) lit.None lit.None []
+      (by-cause r k s inv (cause_of_typing true (leb 4 n)) _ (byte_taken s byte carrier n) None None []
       (typing-never-6 (leb 4 n))
       (no_key (cause_of_typing true (leb 4 n)))
       (λ _. record {
@@ -194,7 +194,7 @@ module _ (r : ℕ) (k : Book) (s : Set) (inv : Invariant r k s) where
       }))
 
   pub time-effect : (ns : ℕ) (carrier : Bool)
-      → Effect r k (entry_of k (time ns carrier)) (lapsed s ns carrier).set (lapsed s ns carrier).refusal lit.None []
+      → Effect r k (entry_of k (time ns carrier)) (lapsed s ns carrier).set (lapsed s ns carrier).refusal None []
   unfolding lapsed lapse_cause entry_of accepted
   time-effect ns carrier =
       rw inv.sound (record {
@@ -206,7 +206,7 @@ module _ (r : ℕ) (k : Book) (s : Set) (inv : Invariant r k s) where
         wrote = tt;
       })
 
-  pub forcing-effect : Effect r k (entry_of k forcing) (forced s).set (forced s).refusal lit.None []
+  pub forcing-effect : Effect r k (entry_of k forcing) (forced s).set (forced s).refusal None []
   unfolding forced forced_cause entry_of accepted controlled
   forcing-effect =
       rw inv.sound (record {
@@ -438,7 +438,7 @@ has_room true e = absurd (true≢false (sym e))
 has_room false e = refl
 
 pub queuing-effect : (r : ℕ) (k : Book) (s : Set) → Invariant r k s → (byte : ℕ)
-    → Effect r k (entry_of k (queuing byte)) (byte_queued s byte).set (byte_queued s byte).refusal lit.None []
+    → Effect r k (entry_of k (queuing byte)) (byte_queued s byte).set (byte_queued s byte).refusal None []
 unfolding byte_queued queuing_cause entry_of
 queuing-effect r k s inv byte =
     let f = inv.follows in
@@ -448,7 +448,7 @@ queuing-effect r k s inv byte =
     let longer = ap (λ (x : Sending). queued x byte) f.sending in
     let on = next-sending r (ok r k s inv) k (queues byte) inv.sending in
     rw (inv.sound, same)
-    (by-cause r k s inv (cause_of_queuing true full) (queues byte) (moved s s.processor s.session (queued s.sending byte)) lit.None lit.None []
+    (by-cause r k s inv (cause_of_queuing true full) (queues byte) (moved s s.processor s.session (queued s.sending byte)) None None []
     (queuing-never-6 full)
     (no_key (cause_of_queuing true full))
     (λ allowed. record {

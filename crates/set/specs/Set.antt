@@ -1,8 +1,7 @@
 -- 01, "The set" and "When a call is declined": the public calls. Each has its cause; a declined call has no reply, sends 0 bytes, and leaves the
 -- set and what is lent to it as they were.
-use Rattle.std.specs.Prelude.{ℕ, Bool, true, false, List, [], leb, ltb, eqb, length, Float}
+use Rattle.std.specs.Prelude.{ℕ, Bool, true, false, List, [], leb, ltb, eqb, length, Float, None}
 use Rattle.ascii.specs.Front.{put}
-use Rattle.keys.specs.declared.Lit.TheVariants as lit
 use Rattle.reply.specs.declared.Reply.TheVariants as reply
 use Rattle.at.specs.declared.AtProcessor.{AtProcessor}
 use Rattle.at.specs.declared.Control.{Control}
@@ -144,7 +143,7 @@ fill s b =
     record {
       set = if_accepted cause (filled_set s b) s;
       refusal = cause;
-      key = if_accepted cause (key_after s.session b s.rate) lit.None;
+      key = if_accepted cause (key_after s.session b s.rate) None;
     }
 
 abbrev pub written_if : (up : Bool) → Set → ℕ → List Float

@@ -14,7 +14,7 @@ ghost use Rattle.set.specs.String.{set_by, sent_by, codes_by, at_front, string_c
 
 use at::{AtProcessor, Control};
 use command::Line;
-use keys::{Digits, Lit};
+use keys::{Digits, Key};
 use reply::Reply;
 use sender::Sending;
 use session::{Session, SessionState};
@@ -106,7 +106,7 @@ pub struct Filled {
     pub set: Set,
     pub refusal: Refusal,
     // that of the last sample
-    pub key: Lit,
+    pub key: Option<Key>,
 }
 
 #[derive(Clone, Copy)]
@@ -460,7 +460,7 @@ impl Set {
                         ..self
                     },
                     refusal,
-                    key: Lit::None,
+                    key: None,
                 };
             }
             let filled = session.process_out(self.rate, out);
@@ -481,7 +481,7 @@ impl Set {
         Filled {
             set: self,
             refusal,
-            key: Lit::None,
+            key: None,
         }
     }
 
