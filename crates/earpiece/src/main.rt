@@ -9,6 +9,7 @@ use std::env::Env;
 use std::io;
 use std::io::Write;
 use std::rt::Files;
+use text::Page;
 
 // How many samples are made and written at once.
 const SAMPLES: usize = 4096;
@@ -70,18 +71,17 @@ fn write(rt: &impl Files, errors: &impl Print, digits: &[u8], rate: u32, path: &
 // Writes the header and, in buffers, the T samples behind it.
 fn record(file: &mut impl Write, digits: &[u8], rate: u32) -> io::Result<()> {
     let mut samples = [0i16; SAMPLES];
-    let mut bytes = [0u8; 2 * SAMPLES];
+    let mut bytes = Page::<8192>::new();
     let total = plan::total_samples(digits, rate);
-    file.write_all(&wav::header(total, rate))?;
+    let header = wav::header(total, rate);
+    file.write_all(header.text())?;
     for pass in (0..total).step_by(SAMPLES) {
         let count = SAMPLES.min((total - pass) as usize);
         let part = &mut samples[..count];
         handset::earpiece(digits, rate, u64::from(pass), part).map_err(|_| refused())?;
-        let end = wav::put_samples(&mut bytes, part);
-        if end > bytes.len() {
-            return Err(refused());
-        }
-        file.write_all(&bytes[..end])?;
+        bytes.clear();
+        wav::put_samples(&mut bytes, part);
+        file.write_all(bytes.text())?;
     }
     Ok(())
 }
