@@ -128,9 +128,8 @@ impl Inbox {
     fn line(self, code: Code, s12: u8) -> Inbox
         ensures { result ≡ received self (closed code s12) }
     {
-        let number = code.number();
         let mut text: [u8; 32] = [0; 32];
-        let n = reply::write_reply(number, s12, &mut text);
+        let n = code.write(s12, &mut text);
         let from: usize = 0;
         let inbox = self.bytes(&text[from..n]);
         let inbox = inbox.byte(13);
