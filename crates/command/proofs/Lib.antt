@@ -6,5 +6,4 @@ pub mod Cases
 pub mod Overlong
 pub mod Digits
 pub mod Part
-pub mod Setting
 pub mod Forms
