@@ -58,6 +58,7 @@ pub struct Outcome {
 
 // The answer to a typed byte. `sent` counts the bytes put at the outbox's front. `line` is the line
 // that the byte ended, uppercased, or an empty one: a dial line's digits stand in it after ATDT.
+// An `Outcome` in place of its first three fields is no plainer: callers read them one by one.
 #[derive(Clone, Copy)]
 pub struct Fed {
     pub processor: AtProcessor,

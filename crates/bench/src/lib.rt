@@ -2,7 +2,7 @@
 // each makes a set, dials, plays up to a sample, and then does one thing many times over.
 #![tactic(auto)]
 
-ghost use Rattle.std.specs.Prelude.{◌<◌, ◌≤◌};
+ghost use Rattle.std.specs.Prelude.{◌≤◌};
 
 use deframe::Deframer;
 use set::Set;
@@ -14,66 +14,36 @@ fn dialled(rate: u32, digits: &[u8]) -> Set {
     typed(set, b"\r")
 }
 
-fn typed(set: Set, bytes: &[u8]) -> Set {
-    let mut s = set;
-    let mut outbox = [0u8; 4];
-    let mut i: usize = 0;
-    while i < bytes.len() {
-        let t = s.feed(bytes[i], false, &mut outbox);
-        let next = t.set;
-        s = next;
-        i += 1;
+fn typed(mut set: Set, bytes: &[u8]) -> Set {
+    let mut outbox = [0; 4];
+    for byte in bytes {
+        set = set.feed(*byte, false, &mut outbox).set;
     }
-    s
-}
-
-fn least(a: usize, b: usize) -> usize
-    requires { (0 < a) × (0 < b) }
-    ensures { (0 < result) × (result ≤ a) × (result ≤ b) }
-{
-    if a < b {
-        return a;
-    }
-    b
+    set
 }
 
 // The whole of out, in fills of at most part samples.
-fn filled(set: Set, part: usize, out: &mut [f32]) -> Set {
-    let mut s = set;
-    if part < 1 {
-        return s;
+fn filled(mut set: Set, part: usize, out: &mut [f32]) -> Set {
+    if part > 0 {
+        for samples in out.chunks_mut(part) {
+            set = set.process_out(samples).set;
+        }
     }
-    let mut at: usize = 0;
-    while at < out.len() {
-        let left = out.len() - at;
-        let end = at + least(left, part);
-        let f = s.process_out(&mut out[at..end]);
-        let next = f.set;
-        s = next;
-        at = end;
-    }
-    s
-}
-
-fn skipped(set: Set, part: usize) -> Set
-    requires { part ≤ 4096 }
-{
-    let mut scratch = [0.0f32; 4096];
-    let from: usize = 0;
-    let f = set.process_out(&mut scratch[from..part]);
-    f.set
+    set
 }
 
 // A set that dialled the digits and played skip samples.
 fn played(rate: u32, digits: &[u8], skip: usize) -> Set {
-    let mut s = dialled(rate, digits);
-    let mut left = skip;
-    while left > 0 {
-        let part = least(left, 4096);
-        s = skipped(s, part);
-        left -= part;
+    let mut set = dialled(rate, digits);
+    let mut scratch = [0.0; 4096];
+    for _ in 0..skip / 4096 {
+        set = set.process_out(&mut scratch).set;
     }
-    s
+    // an empty fill would change the stage shown
+    if skip % 4096 > 0 {
+        set = set.process_out(&mut scratch[..skip % 4096]).set;
+    }
+    set
 }
 
 // Fills out, turns times from the same set; answers m after the last.
@@ -87,33 +57,19 @@ pub extern "C" fn bench_fills(
     out: &mut [f32],
 ) -> u32 {
     let set = played(rate, digits, skip);
-    let mut m: u32 = 0;
-    let mut i: u64 = 0;
-    while i < turns {
-        let s = filled(set, part, out);
-        m = s.m();
-        i += 1;
+    let mut m = 0;
+    for _ in 0..turns {
+        m = filled(set, part, out).m();
     }
     m
 }
 
 // The set with all 256 places of its queue taken.
-fn queued(set: Set) -> Set {
-    let mut s = set;
-    let mut i: usize = 0;
-    while i < 256 {
-        let q = s.queue_byte(b'U');
-        let next = q.set;
-        s = next;
-        i += 1;
+fn queued(mut set: Set) -> Set {
+    for _ in 0..256 {
+        set = set.queue_byte(b'U').set;
     }
-    s
-}
-
-fn waiting(set: Set) -> u64 {
-    let sending = set.sending;
-    let queue = sending.queue;
-    queue.len as u64
+    set
 }
 
 // As `bench_fills`, with 256 bytes queued; answers how many wait after the last.
@@ -127,48 +83,33 @@ pub extern "C" fn bench_sent(
     out: &mut [f32],
 ) -> u64 {
     let set = queued(played(rate, digits, skip));
-    let mut left: u64 = 0;
-    let mut i: u64 = 0;
-    while i < turns {
-        let s = filled(set, part, out);
-        left = waiting(s);
-        i += 1;
+    let mut left = 0;
+    for _ in 0..turns {
+        left = filled(set, part, out).sending.queue.len;
     }
-    left
-}
-
-fn filled_empty(set: Set) -> Set {
-    let mut none = [0.0f32; 1];
-    let from: usize = 0;
-    let f = set.process_out(&mut none[from..from]);
-    f.set
+    left as u64
 }
 
 // Empty fills, each of the set that the one before returned.
 #[unsafe(no_mangle)]
 pub extern "C" fn bench_empty_fills(rate: u32, digits: &[u8], skip: usize, turns: u64) -> u32 {
-    let mut s = played(rate, digits, skip);
-    let mut i: u64 = 0;
-    while i < turns {
-        s = filled_empty(s);
-        i += 1;
+    let mut set = played(rate, digits, skip);
+    for _ in 0..turns {
+        set = set.process_out(&mut []).set;
     }
-    s.m()
+    set.m()
 }
 
 // Bytes typed in data mode, each into the outbox; answers how many the last one sent.
 #[unsafe(no_mangle)]
 pub extern "C" fn bench_bytes(rate: u32, digits: &[u8], skip: usize, turns: u64) -> u64 {
-    let mut s = played(rate, digits, skip);
-    let mut outbox = [0u8; 4];
-    let mut sent: usize = 0;
-    let mut i: u64 = 0;
-    while i < turns {
-        let t = s.feed(b'A', true, &mut outbox);
-        let next = t.set;
-        sent = t.sent;
-        s = next;
-        i += 1;
+    let mut set = played(rate, digits, skip);
+    let mut outbox = [0; 4];
+    let mut sent = 0;
+    for _ in 0..turns {
+        let typed = set.feed(b'A', true, &mut outbox);
+        set = typed.set;
+        sent = typed.sent;
     }
     sent as u64
 }
@@ -176,41 +117,26 @@ pub extern "C" fn bench_bytes(rate: u32, digits: &[u8], skip: usize, turns: u64)
 // Strings of eleven bytes typed in data mode; answers how many the last one sent.
 #[unsafe(no_mangle)]
 pub extern "C" fn bench_strings(rate: u32, digits: &[u8], skip: usize, turns: u64) -> u64 {
-    let mut s = played(rate, digits, skip);
-    let mut outbox = [0u8; 44];
-    let mut codes = [0u8; 33];
-    let mut sent: usize = 0;
-    let mut i: u64 = 0;
-    while i < turns {
-        let t = s.feed_all(b"ATDT5551234", true, &mut outbox, &mut codes);
-        let next = t.set;
-        sent = t.sent;
-        s = next;
-        i += 1;
+    let mut set = played(rate, digits, skip);
+    let mut outbox = [0; 44];
+    let mut codes = [0; 33];
+    let mut sent = 0;
+    for _ in 0..turns {
+        let typed = set.feed_all(b"ATDT5551234", true, &mut outbox, &mut codes);
+        set = typed.set;
+        sent = typed.sent;
     }
     sent as u64
-}
-
-fn one_if(b: bool) -> u64
-    ensures { result ≤ 1 }
-{
-    if b {
-        return 1;
-    }
-    0
 }
 
 // Soundness, asked of a set whose count is another each time; answers how often it held.
 #[unsafe(no_mangle)]
 pub extern "C" fn bench_sound(rate: u32, digits: &[u8], skip: usize, turns: u64) -> u64 {
-    let mut s = played(rate, digits, skip);
-    let mut held: u64 = 0;
-    let mut i: u64 = 0;
-    while i < turns {
-        let m = (i % 4_000_000) as u32;
-        s.session.m = m;
-        held += one_if(s.sound());
-        i += 1;
+    let mut set = played(rate, digits, skip);
+    let mut held = 0;
+    for i in 0..turns {
+        set.session.m = (i % 4_000_000) as u32;
+        held += u64::from(set.sound());
     }
     held
 }
@@ -218,14 +144,10 @@ pub extern "C" fn bench_sound(rate: u32, digits: &[u8], skip: usize, turns: u64)
 // A list of bits read from idle into a buffer of 512 bytes; answers how many bytes the last one gave.
 #[unsafe(no_mangle)]
 pub extern "C" fn bench_bits(bits: &[u8], turns: u64) -> u64 {
-    let mut out = [0u8; 512];
-    let mut given: usize = 0;
-    let mut i: u64 = 0;
-    while i < turns {
-        let reader = Deframer::new();
-        let r = reader.read(bits, &mut out);
-        given = r.given;
-        i += 1;
+    let mut out = [0; 512];
+    let mut given = 0;
+    for _ in 0..turns {
+        given = Deframer::new().read(bits, &mut out).given;
     }
     given as u64
 }

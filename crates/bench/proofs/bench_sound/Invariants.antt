@@ -1,9 +1,6 @@
--- `bench::bench_sound` is safe and ends: the measure is how many turns are left. Assumes nothing.
-use Prim.Native.Nat.{◌-◌, ◌≤◌}
+-- `bench::bench_sound` is safe: it has held no more often than it was asked. Assumes nothing.
+use Prim.Native.Nat.{◌≤◌}
 use Rattle.bench.proofs.bench_sound.Given as goal
 
 abbrev pub invariant-loop-i : goal.invariant-loop-i
 invariant-loop-i l = l.held ≤ l.i
-
-abbrev pub decreases-loop-i : goal.decreases-loop-i
-decreases-loop-i l = l.turns - l.i
