@@ -89,8 +89,8 @@ fn sin_rares(a: f64, b: f64) -> (f64, f64)
     (sin(a), sin(b))
 }
 
-// Two sines with one test for both: their values meet after it, which is where the compiler starts to pair lanes. By itself it would make a call of
-// this for each pair, which takes a fifth longer.
+// Two sines with one test for both: their values meet after it, which is where the compiler starts to pair lanes. Of itself it
+// would call this for each pair, which takes a fifth longer.
 #[inline(always)]
 #[tactic(auto, unfolding(crate::specs::Sine::sine))]
 pub fn sin_both(a: f64, b: f64) -> (f64, f64)

@@ -34,7 +34,7 @@ pub struct Sent {
     pub written: usize,
 }
 
-// Two oscillators after the samples played.
+// Two oscillators after the samples played. It has names, and no bare pair, for the definitions to speak of.
 #[derive(Clone, Copy)]
 pub struct Pair {
     pub a: Nco,
@@ -77,7 +77,7 @@ fn play_click(rng: u64, n: u32, rate: u32, count: usize, out: &mut [f32]) -> Cli
     Click { rng: x, n: k }
 }
 
-// Two oscillators over the part's front, mixed sample by sample.
+// Two oscillators over the part's front, mixed sample by sample. In each caller, so that the loop holds them in registers.
 #[inline(always)]
 fn play<F: Fn(Nco, Nco) -> Mixed>(mix: F, a: Nco, b: Nco, count: usize, out: &mut [f32]) -> Pair
     requires callable { F.IsAlwaysCallable mix }
@@ -131,7 +131,8 @@ fn play_answer(carrier: Nco, env: Nco, sign: f64, count: usize, out: &mut [f32])
 }
 
 // Bits, until all are done: the four stages that send some share this loop. It takes two samples a
-// turn, so that their sines share the lanes of one division.
+// turn, so that their sines share the lanes of one division. It counts by hand: it may end between
+// the two, and over pairs of samples the count of those written would stand beside the iterator.
 fn write_bits(fsk: FskChannel, payload: &[u8], total: u16, out: &mut [f32]) -> Sent
     requires { 0 < length out.old }
     ensures { SentIs fsk payload.now total out.old out.new result }

@@ -12,6 +12,7 @@ use schedule::{MAX_RATE, MIN_RATE};
 const MAX_COUNT: u32 = 0x4000_0000;
 
 // The count after c samples more; the largest stays.
+#[tactic(auto, using(crate::proofs::Counted::added_is))]
 pub fn saturating_add(n: u32, c: usize) -> u32
     ensures { result ≡ counted c n }
 {
@@ -27,7 +28,7 @@ pub fn samples_left(n: u32, end: u64, most: usize) -> usize
     most.min(left as usize)
 }
 
-// Whether runs are looked for: elsewhere each sample is a run.
+// Whether runs are looked for: elsewhere each sample is a run. No test is a branch.
 fn runs_known(n: u32, rate: u32, most: usize) -> bool
     ensures { result ≡ ((leb min_rate rate && leb rate max_rate) && (leb n 0x4000_0000 && leb most 0x4000_0000)) }
 {

@@ -152,7 +152,7 @@ pub fn symbol_step(rate: u32) -> f64
     BAUD / rate as f64
 }
 
-// The symbol clock after one more sample: its phase, and whether a bit is done.
+// The symbol clock after one more sample: its phase, and whether a bit is done, which a bare pair would not name.
 #[derive(Clone, Copy)]
 pub struct Ticked {
     pub phase: f64,

@@ -1,5 +1,6 @@
 // Whether a stage's state is sound, as 01 lists it. Every call on a set asks, so no length is
-// looked for by counting: whether Dialling goes on is told by the digit at n alone.
+// looked for by counting: whether Dialling goes on is told by the digit at n alone. Tests are joined
+// by `&` and `|`, which ask all of them, so that none is a branch.
 #![tactic(auto)]
 
 ghost use Rattle.std.specs.Prelude.{◌≡◌, true, ◌≤◌, ltb};
