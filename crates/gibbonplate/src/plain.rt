@@ -135,6 +135,7 @@ fn bits(p: PlainStage) -> FskChannel
     }
 }
 
+// The number is a mark in memory that may hold anything; another one is taken for 10.
 pub fn staged(p: PlainStage) -> StageState
     ensures { result ≡ staged p }
 {
@@ -177,6 +178,7 @@ pub fn staged(p: PlainStage) -> StageState
     }
 }
 
+// A number that is no state's is taken for Idle and not refused, so this is no TryFrom.
 pub fn state_at(number: u8) -> SessionState
     ensures { result ≡ state_at number }
 {

@@ -57,7 +57,7 @@ fn write_run(run: Run, rate: Rate, out: &mut [i16])
     }
 }
 
-// The samples from one on, run by run.
+// The samples from one on, run by run: each run says how long it is, so no `for` can count them.
 fn play(call: &Call, from: u32, out: &mut [i16])
     requires { (from ≤ 0x1000_0000) × (length out.old ≤ 65536) }
     ensures { out.new ≡ samples_after (call_digits call.now) call.now.rate.hertz from (length out.old) }

@@ -117,7 +117,7 @@ fn dialled(call: &Call, n: u32, left: usize) -> Run
     }
 }
 
-// The samples in tone among the first n of Ringback, burst by burst.
+// The samples in tone among the first n of Ringback, burst by burst; bursts and gaps say how long they are, so no `for` can count them.
 fn rung(n: u32, rate: Rate) -> u32
     requires { n ≤ 768000 }
     ensures { result ≡ rung_before rate.hertz n }

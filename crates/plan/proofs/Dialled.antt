@@ -11,11 +11,11 @@ module _ (bytes : List ℕ) (held : Digits) (e : held ≡ dialled_of bytes) (few
   pub digits_are : take held.len held.keys ≡ digits_of bytes
   digits_are = ap (λ (h : Digits). take h.len h.keys) e ∙ padded-front (take 76 (digits_of bytes)) ∙ digits-whole bytes few
 
-  count_is : held.len ≡ length (digits_of bytes)
-  count_is = ap (λ (h : Digits). h.len) e ∙ ap length (digits-whole bytes few)
+  pub dialled-count : held.len ≡ length (digits_of bytes)
+  dialled-count = ap (λ (h : Digits). h.len) e ∙ ap length (digits-whole bytes few)
 
   pub count-few : held.len ≤ 76
-  count-few = le_trans (le_of_eq count_is) (le_trans (digits-fewer bytes) few)
+  count-few = le_trans (le_of_eq dialled-count) (le_trans (digits-fewer bytes) few)
 
 -- a call has no more digits than a line
 pub call-few : (call : Call) (digits : List ℕ) → digits ≡ call_digits call → length digits ≤ 76

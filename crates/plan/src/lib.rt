@@ -32,7 +32,7 @@ struct Clock {
     done: u16,
 }
 
-// The clock when so many bits are done, from where fewer were.
+// The clock when so many bits are done, from where fewer were. The bits end it, and not a count of samples, so it is no `for`.
 fn run_to(from: Clock, bits: u16, rate: Rate) -> Clock
     requires { (bits ≤ 300) × (from ≡ clock_after rate.hertz from.n) × (from.done < bits) × ((j : ℕ) → j < from.n → done_after (symbol_step rate.hertz) j < bits) }
     ensures { (result ≡ clock_after rate.hertz (bits_length rate.hertz bits)) × (result.done ≡ bits) }

@@ -1,5 +1,5 @@
 -- `earpiece` meets its contract: the causes in their order, and the samples from where it begins, or from where no call sounds any more. Assumes nothing.
-use Rattle.std.proofs.Common.{◌≡◌, ℕ, ◌≤◌, Bool, true, false, cond, ltb, List, length, refl, ◌∙◌, le_trans, le_of_eq, le_of_lt, lit≤, ltb-true, rules}
+use Rattle.std.proofs.Common.{◌≡◌, ℕ, ◌≤◌, Bool, true, false, cond, ltb, List, length, refl, ◌∙◌, le_of_lt, lit≤, ltb-true, rules}
 use Rattle.keys.specs.Keys.{digits_of}
 use Rattle.std.specs.Prelude.{Err}
 use Rattle.plan.proofs.Counts.{accepted-limits, digits-few}
@@ -25,9 +25,6 @@ returns-in_err-call c =
 
 pub returns-then-out-gt-MAX_FILL : goal.returns-then-out-gt-MAX_FILL
 returns-then-out-gt-MAX_FILL c = too_long _ _ _ _ c.in_ok-call.ensures.accepted c.if-out-gt-MAX_FILL.true
-
-pub play-requires : goal.play-requires
-play-requires c = (le_trans (le_of_eq c.passed.ensures) (passed-most c.args.pass), c.if-out-gt-MAX_FILL.false)
 
 pub returns : goal.returns
 returns c = let call = c.in_ok-call.call in let is = c.in_ok-call.ensures in

@@ -1,5 +1,5 @@
 -- `play` meets its contract: the part written is the definition's samples; a run's part comes back with the run. Assumes nothing.
-use Rattle.std.proofs.Common.{ℕ, ◌-◌, ◌<◌, ◌≤◌, length, refl, le_trans, le_of_eq, arith}
+use Rattle.std.proofs.Common.{ℕ, ◌-◌, ◌≤◌, length, refl, le_trans, le_of_eq, arith}
 use Rattle.plan.specs.Call.{call_digits}
 use Rattle.handset.specs.Runs.{Placed}
 use Rattle.handset.proofs.Joined.{Filled, start, again, full}
@@ -23,18 +23,6 @@ loop-at-init c = (start _ _ _ _, c.edges-edges.ensures)
 
 pub at-next-requires : goal.at-next-requires
 at-next-requires c = placed (goal.at.at-next-requires c).In-loop-at
-
-pub overflow_add-end : goal.overflow_add-end
-overflow_add-end c = let P = placed (goal.at.overflow_add-end c).In-loop-at in omega (arith, c.at-next.ensures.room.fits, P.short, c.loop-at-test.true, within (goal.at.overflow_add-end c).In-loop-at)
-
-pub write_run-requires : goal.write_run-requires
-write_run-requires c = c.at-next.ensures.audible
-
-pub loop-at-smaller : goal.loop-at-smaller
-loop-at-smaller c = let R = c.at-next.ensures.room in
-    let some : 0 < c.at-next.result.count = R.some (placed (goal.at.loop-at-smaller c).In-loop-at).some in
-    let same = joined.same_length _ _ _ _ _ _ c.loop-at.invariant.0 in
-    omega (arith, c.loop-at-test.true)
 
 pub loop-at-preserved : goal.loop-at-preserved
 loop-at-preserved c = (again _ _ _ _ _ _ _ _ _ c.loop-at.invariant.0 c.at-next.ensures refl c.write_run.ensures, c.loop-at.invariant.1)

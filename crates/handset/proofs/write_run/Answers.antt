@@ -1,14 +1,7 @@
 -- `write_run` meets its contract, by what sounds. Assumes nothing.
-use Rattle.std.proofs.Common.{◌≡◌, length, pos, replicate, sym, ◌∙◌, subst, rules}
-use Rattle.handset.specs.Runs.{Audible}
+use Rattle.std.proofs.Common.{◌≡◌, length, pos, replicate, sym, ◌∙◌, rules}
 use Rattle.handset.proofs.Heard.{silence, zeros}
 use Rattle.handset.proofs.write_run.Goals as goal
-
-pub play-requires : goal.play-requires
-play-requires c = subst Audible c.in-Some.is c.requires
-
-pub returns-in-Some : goal.returns-in-Some
-returns-in-Some c = rw c.in-Some.is c.play.ensures
 
 pub returns-in-None : goal.returns-in-None
 returns-in-None c =

@@ -1,5 +1,5 @@
 -- `place::rung` meets its contract: what was counted up to a burst's or a gap's end is what the definition counts. Assumes nothing.
-use Rattle.std.proofs.Common.{◌≡◌, ℕ, ◌+◌, ◌-◌, ◌<◌, ◌≤◌, Bool, true, false, sym, refl, ap, ◌∙◌, le_trans, le_of_eq, le_antisymm, arith, lit≤}
+use Rattle.std.proofs.Common.{◌≡◌, ℕ, ◌+◌, ◌-◌, ◌<◌, ◌≤◌, Bool, true, false, sym, refl, ap, ◌∙◌, le_trans, le_of_eq, arith, lit≤}
 use Rattle.schedule.specs.Ringback.{ring_time, ring_tone}
 use Rattle.handset.specs.Runs.{rung_before, rung_with}
 use Rattle.handset.proofs.Lifted.{rung-few, rung-more, gate-stays}
@@ -28,19 +28,6 @@ pub loop-at-init : goal.loop-at-init
 unfolding rung_before
 loop-at-init c = (omega arith, refl)
 
-pub overflow_cast-count : goal.overflow_cast-count
-overflow_cast-count c = omega (arith, c.ring_run-count.ensures.fits, c.requires)
-
-pub overflow_add-k : goal.overflow_add-k
-overflow_add-k c = let few = le_trans (le_of_eq c.loop-at.invariant.1) (le_trans (rung-few _ _) (le_trans c.loop-at.invariant.0 c.requires)) in omega (arith, c.ring_run-count.ensures.fits, c.requires)
-
-pub overflow_add-at : goal.overflow_add-at
-overflow_add-at c = omega (arith, c.ring_run-count.ensures.fits, c.loop-at.invariant.0, c.requires)
-
-pub loop-at-smaller : goal.loop-at-smaller
-loop-at-smaller c = let test = c.loop-at-test.true in
-    shorter _ _ _ test (c.ring_run-count.ensures.some (positive _ _ test)) c.ring_run-count.ensures.fits
-
 pub loop-at-preserved : goal.loop-at-preserved
 loop-at-preserved c = let gate = c.ringback_gate-on.ensures ∙ ap ring_tone (c.ring_progress-progress.ensures.1 ∙ ap ring_time c.seconds.ensures) in
     let fits = c.ring_run-count.ensures.fits in
@@ -52,5 +39,5 @@ loop-at-preserved c = let gate = c.ringback_gate-on.ensures ∙ ap ring_tone (c.
           ∙ sym (rung-more _ _ _ _ (gate-stays _ _ _ _ c.ring_run-count.ensures (le_trans c.loop-at.invariant.0 (le_trans c.requires (lit≤ tt))) (le_trans (less _ _) (le_trans c.requires (lit≤ tt))))),
     )
 
-pub returns : goal.returns
-returns c = c.loop-at.invariant.1 ∙ ap (rung_before _) (le_antisymm c.loop-at.invariant.0 c.loop-at-test.false)
+pub overflow_add-k : goal.overflow_add-k
+overflow_add-k c = let few = le_trans (le_of_eq c.loop-at.invariant.1) (le_trans (rung-few _ _) (le_trans c.loop-at.invariant.0 c.requires)) in omega (arith, c.ring_run-count.ensures.fits, c.requires)

@@ -26,18 +26,8 @@ mixes : (tones : Tones) (r k s t a b : ℕ) (v : ℤ) → s ≡ step_of tones.lo
 mixes tones r k s t a b v es et ea eb e =
     e ∙ ap (λ (x : ℕ). mixed_at x b) (ea ∙ ap (λ (x : ℕ). phase_after x k) es) ∙ ap (mixed_at _) (eb ∙ ap (λ (x : ℕ). phase_after x k) et)
 
-pub step-s-requires : goal.step-s-requires
-step-s-requires c = c.requires.0
-
-pub step-t-requires : goal.step-t-requires
-step-t-requires c = c.requires.1
-
 pub loop-sample-init : goal.loop-sample-init
 loop-sample-init c = (start _ _ _ _, begun _ _ _ c.phase-a.ensures, begun _ _ _ c.phase-b.ensures)
-
-pub mix-requires : goal.mix-requires
-unfolding wave
-mix-requires c = refl
 
 pub loop-sample-preserved : goal.loop-sample-preserved
 loop-sample-preserved c = let inv = c.loop-sample.invariant in (
@@ -48,3 +38,7 @@ loop-sample-preserved c = let inv = c.loop-sample.invariant in (
 
 pub returns : goal.returns
 returns c = full _ _ _ _ _ _ c.loop-sample.invariant.0 c.loop-sample-test.false
+
+pub mix-requires : goal.mix-requires
+unfolding wave
+mix-requires c = refl
