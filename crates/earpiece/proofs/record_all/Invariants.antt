@@ -5,7 +5,7 @@ use lib.ListN.{length}
 use Rattle.earpiece.proofs.record_all.Given as goal
 
 abbrev pub invariant-loop-pass : goal.invariant-loop-pass
-invariant-loop-pass g l = (length l.samples ≡ length l.initial.samples) × (length l.bytes ≡ length l.initial.bytes) × (l.pass ≤ l.total)
+invariant-loop-pass g l = (length l.samples ≡ length l.initial.samples) × (l.pass ≤ l.total)
 
 abbrev pub decreases-loop-pass : goal.decreases-loop-pass
 decreases-loop-pass g l = l.total - l.pass
