@@ -52,18 +52,18 @@ fn stepped(nco: Nco) -> (f64, Nco)
 }
 
 fn line(output: &impl Print, name: &[u8], sample: f64, nco: Nco) {
-    let mut page = [0u8; 128];
-    let mut k = text::put(&mut page, 0, name);
-    k = put_float(&mut page, k, b" sample", sample);
-    k = put_float(&mut page, k, b" phase", nco.phase);
-    k = put_float(&mut page, k, b" step", nco.step);
-    k = put_float(&mut page, k, b" rate", nco.rate);
-    tried::end(output, &mut page, k);
+    let mut page = tried::Entry::new();
+    page.put(name);
+    put_float(&mut page, b" sample", sample);
+    put_float(&mut page, b" phase", nco.phase);
+    put_float(&mut page, b" step", nco.step);
+    put_float(&mut page, b" rate", nco.rate);
+    tried::end(output, &mut page);
 }
 
-fn put_float(page: &mut [u8], at: usize, label: &[u8], number: f64) -> usize {
-    let k = text::put(page, at, label);
-    tried::put_bits(page, k, bits(number), 16)
+fn put_float(page: &mut tried::Entry, label: &[u8], number: f64) {
+    page.put(label);
+    tried::put_bits(page, bits(number), 16)
 }
 
 // The bit pattern of a float. A NaN has one pattern here.

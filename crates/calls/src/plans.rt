@@ -17,37 +17,27 @@ pub fn plans(output: &impl Print) {
 }
 
 fn one(output: &impl Print, digits: &[u8], rate: u32) {
-    let mut page = [0u8; 256];
+    let mut page = tried::Entry::new();
     let refusal = plan::plan_refusal(digits, rate);
-    let mut k = tried::put_number(&mut page, 0, b"plan of ", digits.len() as u64);
-    k = tried::put_number(&mut page, k, b" at ", rate as u64);
-    k = tried::put_number(&mut page, k, b" refusal ", refusal::answer_number(&refusal) as u64);
-    k = text::put(&mut page, k, b" stages");
-    k = put_stage(&mut page, k, digits, rate, 0);
-    k = put_stage(&mut page, k, digits, rate, 1);
-    k = put_stage(&mut page, k, digits, rate, 2);
-    k = put_stage(&mut page, k, digits, rate, 3);
-    k = put_stage(&mut page, k, digits, rate, 4);
-    k = put_stage(&mut page, k, digits, rate, 5);
-    k = put_stage(&mut page, k, digits, rate, 6);
-    k = put_stage(&mut page, k, digits, rate, 7);
-    k = put_stage(&mut page, k, digits, rate, 8);
-    k = put_stage(&mut page, k, digits, rate, 9);
-    k = put_stage(&mut page, k, digits, rate, 10);
-    k = tried::put_number(
-        &mut page,
-        k,
-        b" T ",
-        plan::total_samples(digits, rate) as u64,
-    );
-    tried::end(output, &mut page, k);
+    tried::put_number(&mut page, b"plan of ", digits.len() as u64);
+    tried::put_number(&mut page, b" at ", rate as u64);
+    tried::put_number(&mut page, b" refusal ", refusal::answer_number(&refusal) as u64);
+    page.put(b" stages");
+    put_stage(&mut page, digits, rate, 0);
+    put_stage(&mut page, digits, rate, 1);
+    put_stage(&mut page, digits, rate, 2);
+    put_stage(&mut page, digits, rate, 3);
+    put_stage(&mut page, digits, rate, 4);
+    put_stage(&mut page, digits, rate, 5);
+    put_stage(&mut page, digits, rate, 6);
+    put_stage(&mut page, digits, rate, 7);
+    put_stage(&mut page, digits, rate, 8);
+    put_stage(&mut page, digits, rate, 9);
+    put_stage(&mut page, digits, rate, 10);
+    tried::put_number(&mut page, b" T ", plan::total_samples(digits, rate) as u64);
+    tried::end(output, &mut page);
 }
 
-fn put_stage(page: &mut [u8], at: usize, digits: &[u8], rate: u32, stage: u32) -> usize {
-    tried::put_number(
-        page,
-        at,
-        b" ",
-        plan::stage_samples(digits, rate, stage) as u64,
-    )
+fn put_stage(page: &mut tried::Entry, digits: &[u8], rate: u32, stage: u32) {
+    tried::put_number(page, b" ", plan::stage_samples(digits, rate, stage) as u64)
 }

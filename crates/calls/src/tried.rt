@@ -3,76 +3,80 @@ ghost use Rattle.std.specs.Prelude.{◌≤◌};
 
 use keys::Key;
 use set::Set;
+use text::Page;
+
+// What is told of a call, or of a set.
+pub type Entry = Page<512>;
 
 // All calls on a set.
 pub fn calls(output: &impl Print, name: &[u8], set: Set) {
-    let mut page = [0u8; 512];
-    let mut k = text::put(&mut page, 0, name);
-    k = put_typed(&mut page, k, set, b'1', 8);
-    k = put_string(&mut page, k, set, b"1\n", 16, 8);
-    k = put_time(&mut page, k, set);
-    k = put_forced(&mut page, k, set);
-    k = put_queued(&mut page, k, set);
-    k = put_filled(&mut page, k, set);
-    k = put_readers(&mut page, k, set);
-    k = put_number(&mut page, k, b" s12 ", set.s12() as u64);
-    k = put_cue(&mut page, k, set, 0);
-    end(output, &mut page, k);
+    let mut page = Entry::new();
+    page.put(name);
+    put_typed(&mut page, set, b'1', 8);
+    put_string(&mut page, set, b"1\n", 16, 8);
+    put_time(&mut page, set);
+    put_forced(&mut page, set);
+    put_queued(&mut page, set);
+    put_filled(&mut page, set);
+    put_readers(&mut page, set);
+    put_number(&mut page, b" s12 ", set.s12() as u64);
+    put_cue(&mut page, set, 0);
+    end(output, &mut page);
 }
 
 // The buffer's first `n` bytes are lent.
 pub(crate) fn reply(output: &impl Print, code: u8, s12: u8, n: usize)
     requires { n ≤ 28 }
 {
-    let mut page = [0u8; 128];
+    let mut page = Entry::new();
     let mut buffer = [b'.'; 28];
     let from: usize = 0;
     let length = reply::write_reply(code, s12, &mut buffer[from..n]);
-    let mut k = put_number(&mut page, 0, b"reply ", code as u64);
-    k = put_number(&mut page, k, b" s12 ", s12 as u64);
-    k = put_number(&mut page, k, b" room ", n as u64);
-    k = put_number(&mut page, k, b" length ", length as u64);
-    k = put_buffer(&mut page, k, &buffer);
-    end(output, &mut page, k);
+    put_number(&mut page, b"reply ", code as u64);
+    put_number(&mut page, b" s12 ", s12 as u64);
+    put_number(&mut page, b" room ", n as u64);
+    put_number(&mut page, b" length ", length as u64);
+    put_buffer(&mut page, &buffer);
+    end(output, &mut page);
 }
 
 pub fn cue(output: &impl Print, name: &[u8], set: Set, position: u32) {
-    let mut page = [0u8; 128];
-    let mut k = text::put(&mut page, 0, name);
-    k = put_cue(&mut page, k, set, position);
-    end(output, &mut page, k);
+    let mut page = Entry::new();
+    page.put(name);
+    put_cue(&mut page, set, position);
+    end(output, &mut page);
 }
 
 pub fn digits(output: &impl Print, name: &[u8], set: Set) {
-    let mut page = [0u8; 128];
+    let mut page = Entry::new();
     let digits = set.digits();
     let keys = digits.keys;
-    let mut k = text::put(&mut page, 0, name);
-    k = put_number(&mut page, k, b" digits ", digits.len as u64);
-    k = put_number(&mut page, k, b" key ", wide(keys[0]));
-    k = put_number(&mut page, k, b" key ", wide(keys[1]));
-    k = put_number(&mut page, k, b" key ", wide(keys[2]));
-    end(output, &mut page, k);
+    page.put(name);
+    put_number(&mut page, b" digits ", digits.len as u64);
+    put_number(&mut page, b" key ", wide(keys[0]));
+    put_number(&mut page, b" key ", wide(keys[1]));
+    put_number(&mut page, b" key ", wide(keys[2]));
+    end(output, &mut page);
 }
 
 pub fn made(output: &impl Print, rate: u32) {
-    let mut page = [0u8; 128];
+    let mut page = Entry::new();
     let made = Set::new(rate);
     let set = made.set;
     let refusal = made.refusal;
-    let mut k = put_number(&mut page, 0, b"rate ", rate as u64);
-    k = put_number(&mut page, k, b" made ", refusal.number() as u64);
-    k = put_number(&mut page, k, b" at ", set.rate() as u64);
-    end(output, &mut page, k);
+    put_number(&mut page, b"rate ", rate as u64);
+    put_number(&mut page, b" made ", refusal.number() as u64);
+    put_number(&mut page, b" at ", set.rate() as u64);
+    end(output, &mut page);
 }
 
 pub(crate) fn typed(output: &impl Print, name: &[u8], set: Set, byte: u8, n: usize)
     requires { n ≤ 8 }
 {
-    let mut page = [0u8; 128];
-    let mut k = text::put(&mut page, 0, name);
-    k = put_typed(&mut page, k, set, byte, n);
-    end(output, &mut page, k);
+    let mut page = Entry::new();
+    page.put(name);
+    put_typed(&mut page, set, byte, n);
+    end(output, &mut page);
 }
 
 // The outbox's first `n` bytes and the code buffer's first `m` are lent.
@@ -80,64 +84,63 @@ pub(crate) fn string(output: &impl Print, name: &[u8], set: Set, string: &[u8], 
     requires n_bound { n ≤ 16 }
     requires m_bound { m ≤ 12 }
 {
-    let mut page = [0u8; 256];
-    let mut k = text::put(&mut page, 0, name);
-    k = put_string(&mut page, k, set, string, n, m);
-    end(output, &mut page, k);
+    let mut page = Entry::new();
+    page.put(name);
+    put_string(&mut page, set, string, n, m);
+    end(output, &mut page);
 }
 
 // A fill of two samples, and what the sender and the bytes that wait have become.
 pub fn sender(output: &impl Print, name: &[u8], set: Set) {
-    let mut page = [0u8; 256];
+    let mut page = Entry::new();
     let answer = set.queue_byte(b'Q');
     let queued = answer.set;
-    let mut k = text::put(&mut page, 0, name);
-    k = put_sending(&mut page, k, set);
-    k = text::put(&mut page, k, b", Q queued:");
-    k = put_sending(&mut page, k, queued);
-    end(output, &mut page, k);
+    page.put(name);
+    put_sending(&mut page, set);
+    page.put(b", Q queued:");
+    put_sending(&mut page, queued);
+    end(output, &mut page);
 }
 
-fn put_sending(page: &mut [u8], at: usize, set: Set) -> usize {
+fn put_sending(page: &mut Entry, set: Set) {
     let mut samples = [1.23f32; 2];
     let answer = set.process_out(&mut samples);
     let after = answer.set;
-    let mut k = put_bits(page, at, samples::bits(samples[0]) as u64, 8);
-    k = put_bits(page, k, samples::bits(samples[1]) as u64, 8);
-    k = put_number(page, k, b" m ", after.m() as u64);
-    k = put_waiting(page, k, after);
-    put_frame(page, k, after)
+    put_bits(page, samples::bits(samples[0]) as u64, 8);
+    put_bits(page, samples::bits(samples[1]) as u64, 8);
+    put_number(page, b" m ", after.m() as u64);
+    put_waiting(page, after);
+    put_frame(page, after)
 }
 
 // The byte that the sender has, how many bits of its frame are begun, and whether an edge is next.
-fn put_frame(page: &mut [u8], at: usize, set: Set) -> usize {
+fn put_frame(page: &mut Entry, set: Set) {
     let sending = set.sending;
     let sender = sending.sender;
-    let mut k = put_bits(page, at, wide(sender.byte), 2);
-    k = put_number(page, k, b" begun ", wide(sender.begun));
+    put_bits(page, wide(sender.byte), 2);
+    put_number(page, b" begun ", wide(sender.begun));
     if sender.edge {
-        k = text::put(page, k, b" edge");
+        page.put(b" edge");
     }
-    k
 }
 
 // A fill of 65,537 samples: the hash is that of the buffer as it was.
 pub fn fill_long(output: &impl Print, set: Set) {
-    let mut page = [0u8; 128];
+    let mut page = Entry::new();
     let mut samples = [1.23f32; 65537];
     let before = samples::fnv::hash_samples(samples::fnv::OFFSET, &samples);
     let answer = set.process_out(&mut samples);
     let refusal = answer.refusal;
     let key = answer.key;
     let after = samples::fnv::hash_samples(samples::fnv::OFFSET, &samples);
-    let mut k = put_number(&mut page, 0, b"fill of 65537 ", refusal.number() as u64);
-    k = put_bits(&mut page, k, before, 16);
-    k = put_bits(&mut page, k, after, 16);
-    k = put_key(&mut page, k, key);
-    end(output, &mut page, k);
+    put_number(&mut page, b"fill of 65537 ", refusal.number() as u64);
+    put_bits(&mut page, before, 16);
+    put_bits(&mut page, after, 16);
+    put_key(&mut page, key);
+    end(output, &mut page);
 }
 
-fn put_typed(page: &mut [u8], at: usize, set: Set, byte: u8, n: usize) -> usize
+fn put_typed(page: &mut Entry, set: Set, byte: u8, n: usize)
     requires { n ≤ 8 }
 {
     let mut outbox = [b'.'; 8];
@@ -145,14 +148,14 @@ fn put_typed(page: &mut [u8], at: usize, set: Set, byte: u8, n: usize) -> usize
     let answer = set.feed(byte, false, &mut outbox[from..n]);
     let refusal = answer.refusal;
     let reply = answer.reply;
-    let mut k = put_number(page, at, b" typed ", refusal.number() as u64);
-    k = put_number(page, k, b" codes ", reply.first() as u64);
-    k = put_number(page, k, b" ", reply.second() as u64);
-    k = put_number(page, k, b" sent ", answer.sent as u64);
-    put_outbox(page, k, &outbox)
+    put_number(page, b" typed ", refusal.number() as u64);
+    put_number(page, b" codes ", reply.first() as u64);
+    put_number(page, b" ", reply.second() as u64);
+    put_number(page, b" sent ", answer.sent as u64);
+    put_outbox(page, &outbox)
 }
 
-fn put_string(page: &mut [u8], at: usize, set: Set, string: &[u8], n: usize, m: usize) -> usize
+fn put_string(page: &mut Entry, set: Set, string: &[u8], n: usize, m: usize)
     requires n_bound { n ≤ 16 }
     requires m_bound { m ≤ 12 }
 {
@@ -161,132 +164,132 @@ fn put_string(page: &mut [u8], at: usize, set: Set, string: &[u8], n: usize, m: 
     let from: usize = 0;
     let answer = set.feed_all(string, false, &mut outbox[from..n], &mut codes[from..m]);
     let refusal = answer.refusal;
-    let mut k = put_number(page, at, b" string ", refusal.number() as u64);
-    k = put_number(page, k, b" sent ", answer.sent as u64);
-    k = put_sends(page, k, &outbox);
-    put_codes(page, k, codes)
+    put_number(page, b" string ", refusal.number() as u64);
+    put_number(page, b" sent ", answer.sent as u64);
+    put_sends(page, &outbox);
+    put_codes(page, codes)
 }
 
-fn put_sends(page: &mut [u8], at: usize, outbox: &[u8; 16]) -> usize {
-    put_word(page, at, outbox)
+fn put_sends(page: &mut Entry, outbox: &[u8; 16]) {
+    put_word(page, outbox)
 }
 
-fn put_codes(page: &mut [u8], at: usize, codes: [u8; 12]) -> usize {
-    let k = text::put(page, at, b" codes ");
-    let l = put_four(page, k, codes[0], codes[1], codes[2], codes[3]);
-    let m = put_four(page, l, codes[4], codes[5], codes[6], codes[7]);
-    put_four(page, m, codes[8], codes[9], codes[10], codes[11])
+fn put_codes(page: &mut Entry, codes: [u8; 12]) {
+    page.put(b" codes ");
+    put_four(page, codes[0], codes[1], codes[2], codes[3]);
+    put_four(page, codes[4], codes[5], codes[6], codes[7]);
+    put_four(page, codes[8], codes[9], codes[10], codes[11])
 }
 
-fn put_four(page: &mut [u8], at: usize, a: u8, b: u8, c: u8, d: u8) -> usize {
-    let mut k = text::put_hex(page, at, wide(a), 2);
-    k = text::put_hex(page, k, wide(b), 2);
-    k = text::put_hex(page, k, wide(c), 2);
-    text::put_hex(page, k, wide(d), 2)
+fn put_four(page: &mut Entry, a: u8, b: u8, c: u8, d: u8) {
+    page.put_hex(wide(a), 2);
+    page.put_hex(wide(b), 2);
+    page.put_hex(wide(c), 2);
+    page.put_hex(wide(d), 2)
 }
 
-fn put_time(page: &mut [u8], at: usize, set: Set) -> usize {
+fn put_time(page: &mut Entry, set: Set) {
     let answer = set.advance_time(1, false);
     let refusal = answer.refusal;
-    put_number(page, at, b" time ", refusal.number() as u64)
+    put_number(page, b" time ", refusal.number() as u64)
 }
 
-fn put_forced(page: &mut [u8], at: usize, set: Set) -> usize {
+fn put_forced(page: &mut Entry, set: Set) {
     let answer = set.force_data_mode();
     let refusal = answer.refusal;
-    put_number(page, at, b" forced ", refusal.number() as u64)
+    put_number(page, b" forced ", refusal.number() as u64)
 }
 
-fn put_queued(page: &mut [u8], at: usize, set: Set) -> usize {
+fn put_queued(page: &mut Entry, set: Set) {
     let answer = set.queue_byte(b'Q');
     let refusal = answer.refusal;
     let after = answer.set;
-    let k = put_number(page, at, b" queued ", refusal.number() as u64);
-    put_waiting(page, k, after)
+    put_number(page, b" queued ", refusal.number() as u64);
+    put_waiting(page, after)
 }
 
 // How many bytes wait, and what the first two places and the last hold.
-fn put_waiting(page: &mut [u8], at: usize, set: Set) -> usize {
+fn put_waiting(page: &mut Entry, set: Set) {
     let sending = set.sending;
     let queue = sending.queue;
     let bytes = queue.bytes;
-    let mut k = put_number(page, at, b" waiting ", queue.len as u64);
-    k = put_bits(page, k, wide(bytes[0]), 2);
-    k = text::put_hex(page, k, wide(bytes[1]), 2);
-    text::put_hex(page, k, wide(bytes[255]), 2)
+    put_number(page, b" waiting ", queue.len as u64);
+    put_bits(page, wide(bytes[0]), 2);
+    page.put_hex(wide(bytes[1]), 2);
+    page.put_hex(wide(bytes[255]), 2)
 }
 
-fn put_filled(page: &mut [u8], at: usize, set: Set) -> usize {
+fn put_filled(page: &mut Entry, set: Set) {
     let mut samples = [1.23f32; 2];
     let answer = set.process_out(&mut samples);
     let refusal = answer.refusal;
     let key = answer.key;
-    let mut k = put_number(page, at, b" fill ", refusal.number() as u64);
-    k = put_bits(page, k, samples::bits(samples[0]) as u64, 8);
-    k = put_bits(page, k, samples::bits(samples[1]) as u64, 8);
-    put_key(page, k, key)
+    put_number(page, b" fill ", refusal.number() as u64);
+    put_bits(page, samples::bits(samples[0]) as u64, 8);
+    put_bits(page, samples::bits(samples[1]) as u64, 8);
+    put_key(page, key)
 }
 
 // The readers that work their answer out.
-fn put_readers(page: &mut [u8], at: usize, set: Set) -> usize {
+fn put_readers(page: &mut Entry, set: Set) {
     let rung = set.ring_number();
     let ring_refusal = rung.refusal;
     let shown = edges::icon(set);
     let icon_refusal = shown.refusal;
-    let mut k = put_number(page, at, b" ring ", ring_refusal.number() as u64);
-    k = put_number(page, k, b" ", rung.ring as u64);
-    k = put_number(page, k, b" icon ", icon_refusal.number() as u64);
-    put_number(page, k, b" ", shown.icon as u64)
+    put_number(page, b" ring ", ring_refusal.number() as u64);
+    put_number(page, b" ", rung.ring as u64);
+    put_number(page, b" icon ", icon_refusal.number() as u64);
+    put_number(page, b" ", shown.icon as u64)
 }
 
-fn put_cue(page: &mut [u8], at: usize, set: Set, position: u32) -> usize {
+fn put_cue(page: &mut Entry, set: Set, position: u32) {
     let cued = cue::cue(set, position);
     let refusal = cued.refusal;
     let key = cued.key;
-    let mut k = put_number(page, at, b" cue ", refusal.number() as u64);
-    k = put_number(page, k, b" ", cued.sample);
-    put_key(page, k, key)
+    put_number(page, b" cue ", refusal.number() as u64);
+    put_number(page, b" ", cued.sample);
+    put_key(page, key)
 }
 
 // Its row and its column.
-fn put_key(page: &mut [u8], at: usize, key: Option<Key>) -> usize {
+fn put_key(page: &mut Entry, key: Option<Key>) {
     match key {
         Some(Key { row, column }) => {
-            let k = put_number(page, at, b" key ", row as u64);
-            put_number(page, k, b"", column as u64)
+            put_number(page, b" key ", row as u64);
+            put_number(page, b"", column as u64)
         }
-        None => text::put(page, at, b" key -"),
+        None => page.put(b" key -"),
     }
 }
 
-pub fn put_number(page: &mut [u8], at: usize, label: &[u8], number: u64) -> usize {
-    let k = text::put(page, at, label);
-    text::put_decimal(page, k, number)
+pub fn put_number(page: &mut Entry, label: &[u8], number: u64) {
+    page.put(label);
+    page.put_decimal(number)
 }
 
-fn put_buffer(page: &mut [u8], at: usize, buffer: &[u8; 28]) -> usize {
-    put_word(page, at, buffer)
+fn put_buffer(page: &mut Entry, buffer: &[u8; 28]) {
+    put_word(page, buffer)
 }
 
-fn put_outbox(page: &mut [u8], at: usize, outbox: &[u8; 8]) -> usize {
-    put_word(page, at, outbox)
+fn put_outbox(page: &mut Entry, outbox: &[u8; 8]) {
+    put_word(page, outbox)
 }
 
-fn put_word(page: &mut [u8], at: usize, word: &[u8]) -> usize {
-    let k = text::put_byte(page, at, b' ');
-    text::put(page, k, word)
+fn put_word(page: &mut Entry, word: &[u8]) {
+    page.put_byte(b' ');
+    page.put(word)
 }
 
-pub fn put_bits(page: &mut [u8], at: usize, bits: u64, digits: usize) -> usize {
-    let k = text::put_byte(page, at, b' ');
-    text::put_hex(page, k, bits, digits)
+pub fn put_bits(page: &mut Entry, bits: u64, digits: usize) {
+    page.put_byte(b' ');
+    page.put_hex(bits, digits)
 }
 
 fn wide(byte: u8) -> u64 {
     byte as u64
 }
 
-pub fn end(output: &impl Print, page: &mut [u8], at: usize) {
-    let k = text::put_byte(page, at, b'\n');
-    let _ = console::stream::flush(output, page, k);
+pub fn end(output: &impl Print, page: &mut Entry) {
+    page.put_byte(b'\n');
+    let _ = output.write_all(page.text());
 }
