@@ -5,5 +5,8 @@ use Rattle.set.specs.Set.{fill}
 use Rattle.panel.specs.Wall.{filled_shown}
 use Rattle.panel.proofs.shown.fill.Goals as goal
 
-pub returns : goal.returns
-returns c = rw (c.show.ensures, c.number.ensures, c.process_out-a.ensures.value) (ap (λ (k : ℕ). filled_shown k (fill c.args.set k)) c.blank.auto.samples)
+pub returns-in-Ok : goal.returns-in-Ok
+returns-in-Ok c = rw c.show.ensures ?
+
+pub returns-in-Err : goal.returns-in-Err
+returns-in-Err c = rw c.declined.ensures ?
