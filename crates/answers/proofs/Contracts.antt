@@ -1,7 +1,7 @@
 -- Demand 1 over the calls' own contracts, and for every set s, sound or not: `Asked` is what the toolchain makes of a call's `requires`, `Learnt` of
 -- its `ensures`, so that a contract that says less is refused here. A call that asks nothing is answered always. Assumes nothing.
 use Rattle.std.proofs.Common.{ℕ, ◌≡◌, Bool, false, ◌&&◌, List, Float, length}
-use Rattle.std.specs.Prelude.{Result}
+use Rattle.std.specs.Prelude.{Result, None}
 use contract.Lifetimes.{Lfts}
 use denote.Bor.{Bor}
 use denote.MutBor.{MutBor}
@@ -11,7 +11,6 @@ use Rattle.nco.specs.declared.Nco.{Nco}
 use Rattle.nco.specs.Nco.{phase_in_range}
 use Rattle.nco.specs.Lent.{lent_sample, lent_nco}
 use Rattle.ascii.specs.Front.{put_length}
-use Rattle.keys.specs.declared.Lit.TheVariants as lit
 use Rattle.reply.specs.Texts.{text_of}
 use Rattle.set.specs.declared.Set.{Set}
 use Rattle.set.specs.declared.Made.{Made}
@@ -82,7 +81,7 @@ pub record Answers (s : Set) : Type 0 where
   pub cue : (p : ℕ)
       → cue.Asked tt (s, (p, tt))
       × ((answer : Result Cued Refusal) → cue.Learnt tt (s, (p, tt)) answer (s, (p, tt))
-      → (checked answer ≡ cue_cause s p) × (Declined (checked answer) → (sample_cued answer ≡ 0) × (key_cued answer ≡ lit.None)))
+      → (checked answer ≡ cue_cause s p) × (Declined (checked answer) → (sample_cued answer ≡ 0) × (key_cued answer ≡ None)))
   -- 02, E1: number 4 never occurs: no refusal has it, so that no call on any set answers it
   pub never4 : (refusal : Refusal) → number_of refusal ≡ 4 → ⊥
   -- 02, E10: nor does number 5

@@ -16,7 +16,7 @@ use Rattle.nco.specs.declared.Nco.{Nco}
 use Rattle.nco.specs.Nco.{phase_in_range}
 use Rattle.nco.specs.Lent.{lent_sample, lent_nco}
 use Rattle.ascii.specs.Front.{put_length}
-use Rattle.keys.specs.declared.Lit.TheVariants as lit
+use Rattle.std.specs.declared.option.Option.TheVariants as option
 use Rattle.reply.specs.declared.Reply.TheVariants.{None}
 use Rattle.reply.specs.Texts.{text_of}
 use Rattle.set.specs.declared.Set.{Set}
@@ -68,7 +68,7 @@ module _ {s : Set} {cause : Checked} {e : Event} (b : ByCause s cause e) where
     pub declined-sent : e.sent ≡ 0
     declined-sent = unchanged.sent
 
-    pub declined-key : e.key ≡ lit.None
+    pub declined-key : e.key ≡ option.None
     declined-key = unchanged.key
 
 -- and a string by its own
@@ -153,7 +153,7 @@ module _ (s : Set) (r : Bool) (d : is-sound.Learnt tt (s, tt) r (s, tt)) where
   pub cue-answers : (p : ℕ)
       → cue.Asked tt (s, (p, tt))
       × ((answer : Result Cued Refusal) → cue.Learnt tt (s, (p, tt)) answer (s, (p, tt))
-      → (checked answer ≡ cue_cause s p) × (Declined (checked answer) → (sample_cued answer ≡ 0) × (key_cued answer ≡ lit.None)))
+      → (checked answer ≡ cue_cause s p) × (Declined (checked answer) → (sample_cued answer ≡ 0) × (key_cued answer ≡ option.None)))
   cue-answers p = (tt, λ answer d. told.cue p answer d.0)
 
   pub never-4 : (refusal : Refusal) → number_of refusal ≡ 4 → ⊥

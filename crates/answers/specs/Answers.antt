@@ -1,13 +1,12 @@
 -- Demand 1: "A byte, a lapse of time or a sample buffer handed in gets an answer always. If refused, it gets 01's number, and set and lent
 -- buffers keep their contents." Over what the calls' contracts promise, and for every set s, sound or not. That each call asks nothing, and so is
 -- answered always, and that it promises this, is in proofs/Contracts.antt.
-use Rattle.std.specs.Prelude.{ℕ, ◌≡◌, Bool, false, ◌&&◌, List, Float, length, Result}
+use Rattle.std.specs.Prelude.{ℕ, ◌≡◌, Bool, false, ◌&&◌, List, Float, length, Result, None}
 use Rattle.math.specs.Float.{zero}
 use Rattle.nco.specs.declared.Nco.{Nco}
 use Rattle.nco.specs.Nco.{phase_in_range}
 use Rattle.nco.specs.Lent.{lent_sample, lent_nco}
 use Rattle.ascii.specs.Front.{put, put_length}
-use Rattle.keys.specs.declared.Lit.TheVariants as lit
 use Rattle.reply.specs.Texts.{text_of}
 use Rattle.set.specs.declared.Set.{Set}
 use Rattle.set.specs.declared.Made.{Made}
@@ -45,7 +44,7 @@ pub record Answers (s : Set) : Type 0 where
   -- a refused ring or cue is 0; 02, E8: and has no key
   pub ring : (answer : Result ℕ Refusal) → IsRung s answer → (checked answer ≡ ring_cause s) × (Declined (checked answer) → told (λ (ring : ℕ). ring) 0 answer ≡ 0)
   pub cue : (p : ℕ) (answer : Result Cued Refusal) → answer ≡ cued s p
-      → (checked answer ≡ cue_cause s p) × (Declined (checked answer) → (sample_cued answer ≡ 0) × (key_cued answer ≡ lit.None))
+      → (checked answer ≡ cue_cause s p) × (Declined (checked answer) → (sample_cued answer ≡ 0) × (key_cued answer ≡ None))
   -- 02, E1: number 4 never occurs: no refusal has it, so that no call on any set answers it
   pub never4 : (refusal : Refusal) → number_of refusal ≡ 4 → ⊥
   -- 02, E10: nor does number 5

@@ -1,7 +1,7 @@
 // What is printed of a call: a line for each stage and for each digit, its length T, when the line was up, and
 // when a text was sent.
 use crate::play;
-use keys::Lit;
+use keys::Key;
 use set::Set;
 
 pub fn print(
@@ -110,21 +110,28 @@ fn put_keys(page: &mut [u8], at: usize, dialled: Set, keys: &[u8], len: usize) -
 }
 
 // A digit, where its key stands, and when it begins.
-fn put_key(page: &mut [u8], at: usize, digit: u8, key: Lit, sample: u64, rate: u32) -> usize {
+fn put_key(
+    page: &mut [u8],
+    at: usize,
+    digit: u8,
+    key: Option<Key>,
+    sample: u64,
+    rate: u32,
+) -> usize {
     let k = put_digit(page, at, digit, key);
     put_first(page, k, sample, rate)
 }
 
 // A digit, and the row and the column of its key.
-fn put_digit(page: &mut [u8], at: usize, digit: u8, key: Lit) -> usize {
+fn put_digit(page: &mut [u8], at: usize, digit: u8, key: Option<Key>) -> usize {
     let word = [digit];
     let k = put_right(page, at, &word, 1, 5);
     match key {
-        Lit::Key { row, column } => {
+        Some(Key { row, column }) => {
             let l = put_number(page, k, row as u64, 4);
             put_number(page, l, column as u64, 1)
         }
-        Lit::None => put_right(page, k, b"-", 1, 5),
+        None => put_right(page, k, b"-", 1, 5),
     }
 }
 

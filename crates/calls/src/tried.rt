@@ -1,7 +1,7 @@
 // A line of output for each call, or for each set: what was answered, and the buffer after it.
 ghost use Rattle.std.specs.Prelude.{◌≤◌};
 
-use keys::Lit;
+use keys::Key;
 use set::Set;
 
 // All calls on a set.
@@ -249,13 +249,13 @@ fn put_cue(page: &mut [u8], at: usize, set: Set, position: u32) -> usize {
 }
 
 // Its row and its column.
-fn put_key(page: &mut [u8], at: usize, key: Lit) -> usize {
+fn put_key(page: &mut [u8], at: usize, key: Option<Key>) -> usize {
     match key {
-        Lit::Key { row, column } => {
+        Some(Key { row, column }) => {
             let k = put_number(page, at, b" key ", row as u64);
             put_number(page, k, b"", column as u64)
         }
-        Lit::None => text::put(page, at, b" key -"),
+        None => text::put(page, at, b" key -"),
     }
 }
 

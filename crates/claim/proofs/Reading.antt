@@ -7,7 +7,7 @@ use mathlib.Core.List.{List, [], ◌∷◌, ◌++◌, map}
 use mathlib.Core.Logic.{◌⊎◌, ◌↔◌}
 use lib.Ieee.{Float, binary32, to_bits, of_bits}
 use lib.ListN.{length, replicate, take}
-use Rattle.keys.specs.declared.Lit.TheVariants as lit
+use Rattle.std.specs.declared.option.Option.TheVariants as option
 use Rattle.reply.specs.declared.Reply.TheVariants.{None}
 use Rattle.at.specs.declared.AtProcessor.{AtProcessor}
 use Rattle.at.specs.declared.Control.TheVariants.{Nothing, Dial}
@@ -133,7 +133,7 @@ module _ (rate : ℕ) (answer : Made) (d : start.Learnt tt (rate, tt) answer (ra
       pub declined-sent : e.sent ≡ 0
       declined-sent = unchanged.sent
 
-      pub declined-key : e.key ≡ lit.None
+      pub declined-key : e.key ≡ option.None
       declined-key = unchanged.key
 
     abbrev after : Book

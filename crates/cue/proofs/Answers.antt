@@ -6,8 +6,7 @@ use mathlib.Core.Bool.{true}
 use lib.Dec.{lit≤}
 use Rattle.math.specs.Float.{of_nat}
 use Rattle.nco.specs.Nco.{step_of}
-use Rattle.keys.specs.declared.Lit.{Lit}
-use Rattle.keys.specs.declared.Lit.TheVariants as lit
+use Rattle.keys.specs.declared.Key.{Key}
 use Rattle.stage.specs.declared.StageState.TheVariants.{Dialling}
 use Rattle.stage.specs.declared.StageState.{StageState}
 use Rattle.stage.specs.Stage.{key_of}
@@ -29,7 +28,7 @@ use Rattle.set.specs.Sound.{sound}
 use Rattle.set.specs.Set.{fresh_set, moved}
 use Rattle.set.proofs.Soundness.{fresh-sound, control-sound}
 use Rattle.set.proofs.Cases.{ones, unsound-81}
-use Rattle.std.specs.Prelude.{Result, Ok, Err}
+use Rattle.std.specs.Prelude.{Result, Ok, Err, None}
 use Rattle.refusal.specs.declared.Refusal.{Refusal}
 use Rattle.refusal.specs.Refusal.{answer_number}
 use Rattle.set.specs.Refusals.{Checked, Declined, answered, checked}
@@ -39,13 +38,13 @@ use Rattle.cue.specs.Cue.{cue_cause, found, cued, sample_cued, key_cued}
 use Rattle.cue.proofs.cue.Reads as cue
 
 pub cued-answers : (s : Set) (p : ℕ) (answer : Result Cued Refusal) → answer ≡ cued s p
-    → (checked answer ≡ cue_cause s p) × (Declined (checked answer) → (sample_cued answer ≡ 0) × (key_cued answer ≡ lit.None))
+    → (checked answer ≡ cue_cause s p) × (Declined (checked answer) → (sample_cued answer ≡ 0) × (key_cued answer ≡ None))
 unfolding cued
 cued-answers s p answer is =
     let refused = checked-is (cue_cause s p) (found s p) in
     rw is (refused, λ no.
         let declined : Declined (cue_cause s p) = rw (← refused) no in
-        (untold (cue_cause s p) declined _ 0 (found s p), untold (cue_cause s p) declined _ lit.None (found s p)))
+        (untold (cue_cause s p) declined _ 0 (found s p), untold (cue_cause s p) declined _ None (found s p)))
 
 -- an answer that is no cause is what is found
 taken-is : (s : Set) (p : ℕ) (answer : Cued) → Ok answer ≡ cued s p → answer ≡ found s p
@@ -62,7 +61,7 @@ module _ (s : Set) (p : ℕ) where
     pub cue-is : answer ≡ cued s p
     cue-is = d.0
 
-    pub cue-answers : (checked answer ≡ cue_cause s p) × (Declined (checked answer) → (sample_cued answer ≡ 0) × (key_cued answer ≡ lit.None))
+    pub cue-answers : (checked answer ≡ cue_cause s p) × (Declined (checked answer) → (sample_cued answer ≡ 0) × (key_cued answer ≡ None))
     cue-answers = cued-answers s p answer cue-is
 
   module _ (answer : Cued) (d : cue.Learnt tt (s, (p, tt)) (Ok answer) (s, (p, tt))) where

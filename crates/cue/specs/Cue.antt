@@ -1,8 +1,7 @@
 -- 01, "Cue", and 02, E2: for a digit position, the first sample number in that digit's tone; 02, E8: with the digit's key. And the causes for
 -- which it is declined.
-use Rattle.std.specs.Prelude.{ℕ, Bool, true, false, ◌&&◌, ltb, eqb, Result, Ok, Err}
-use Rattle.keys.specs.declared.Lit.{Lit}
-use Rattle.keys.specs.declared.Lit.TheVariants as lit
+use Rattle.std.specs.Prelude.{ℕ, Bool, true, false, ◌&&◌, ltb, eqb, Result, Ok, Err, Option, None}
+use Rattle.keys.specs.declared.Key.{Key}
 use Rattle.tones.specs.Dial.{dialled_key}
 use Rattle.passage.specs.Cue.{first_in_tone}
 use Rattle.session.specs.Session.{state_number, digits_held}
@@ -37,5 +36,5 @@ cued s p = answered (cue_cause s p) (found s p)
 abbrev pub sample_cued : Result Cued Refusal → ℕ
 sample_cued answer = told (λ (c : Cued). c.sample) 0 answer
 
-abbrev pub key_cued : Result Cued Refusal → Lit
-key_cued answer = told (λ (c : Cued). c.key) lit.None answer
+abbrev pub key_cued : Result Cued Refusal → Option Key
+key_cued answer = told (λ (c : Cued). c.key) None answer

@@ -12,7 +12,7 @@ ghost use Rattle.session.specs.Session.{digits_held};
 ghost use Rattle.cue.specs.declared.Cued.{Cued};
 ghost use Rattle.cue.specs.Cue.{cue_cause, cued};
 
-use keys::Lit;
+use keys::Key;
 use refusal::Refusal;
 use set::Set;
 
@@ -20,7 +20,7 @@ use set::Set;
 pub struct Cued {
     pub sample: u64,
     // that of the digit
-    pub key: Lit,
+    pub key: Option<Key>,
 }
 
 // How many samples of Dialling come before a digit's: none, or those of the digits before it.
@@ -46,7 +46,7 @@ fn cue_sample(position: u32, rate: u32) -> u64
 }
 
 // The key of the digit at a position.
-fn cue_key(set: Set, position: u32) -> Lit
+fn cue_key(set: Set, position: u32) -> Option<Key>
     requires { set.session.digits.len ≤ 76 }
     ensures { result ≡ dialled_key (digits_held set.session) position true }
 {

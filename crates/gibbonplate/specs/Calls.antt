@@ -1,8 +1,7 @@
 -- The calls of the set from memory: each is the set's call between a load and a store. What is lent beside the memory is named before and
 -- after the call.
-use Rattle.std.specs.Prelude.{ℕ, ◌≡◌, Bool, cond, List, [], ◌∷◌, leb, Float, length}
-use Rattle.keys.specs.declared.Lit.{Lit}
-use Rattle.keys.specs.declared.Lit.TheVariants as lit
+use Rattle.std.specs.Prelude.{ℕ, ◌≡◌, Bool, cond, List, [], ◌∷◌, leb, Float, length, Option, Some, None}
+use Rattle.keys.specs.declared.Key.{Key}
 use Rattle.reply.specs.declared.Reply.{Reply}
 use Rattle.reply.specs.Codes.{first_of, second_of}
 use Rattle.refusal.specs.Refusal.{answer_number}
@@ -54,9 +53,9 @@ pub record QueueCall (before after : Memory) (byte number : ℕ) : Type 0 where
   pub memory : after ≡ kept (λ (a : Set). a) (byte_queued (loaded before) byte) before
 
 -- 02, E8: a key in memory: its row and its column, 255 for none
-abbrev pub key_numbers : Lit → List ℕ
-key_numbers (lit.Key row column) = row ∷ column ∷ []
-key_numbers lit.None = 255 ∷ 255 ∷ []
+abbrev pub key_numbers : Option Key → List ℕ
+key_numbers (Some key) = key.row ∷ key.column ∷ []
+key_numbers None = 255 ∷ 255 ∷ []
 
 pub record FillCall (before after : Memory) (was is : List Float) (lights : List ℕ) (number : ℕ) : Type 0 where
   pub refusal : number ≡ answer_number (fill (loaded before) (length was))

@@ -16,7 +16,7 @@ ghost use Rattle.session.specs.Session.{state_number};
 ghost use Rattle.gibbonplate.specs.Memory.{memory, loaded};
 ghost use Rattle.gibbonplate.specs.Calls.{NewCall, FeedCall, StringCall, TimeCall, ForceCall, QueueCall, FillCall, RingCall, CueCall, key_numbers, letter, held_count};
 
-use keys::Lit;
+use keys::Key;
 use memory::MARKS;
 use set::Set;
 
@@ -182,12 +182,12 @@ pub extern "C" fn gibbonplate_queue_byte_in(
 }
 
 // Row and column; 255 for none.
-fn key_numbers(key: Lit) -> [u8; 2]
+fn key_numbers(key: Option<Key>) -> [u8; 2]
     ensures { result ≡ key_numbers key }
 {
     match key {
-        Lit::Key { row, column } => [row, column],
-        Lit::None => [255, 255],
+        Some(Key { row, column }) => [row, column],
+        None => [255, 255],
     }
 }
 
@@ -213,7 +213,7 @@ pub extern "C" fn gibbonplate_process_out_in(
             0
         }
         Err(refusal) => {
-            *key = key_numbers(Lit::None);
+            *key = key_numbers(None);
             u8::from(refusal)
         }
     }
@@ -262,7 +262,7 @@ pub extern "C" fn gibbonplate_cue_in(
         }
         Err(refusal) => {
             *sample = 0;
-            *key = key_numbers(Lit::None);
+            *key = key_numbers(None);
             u8::from(refusal)
         }
     }

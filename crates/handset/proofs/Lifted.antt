@@ -2,8 +2,9 @@
 -- of the stages. Assumes nothing.
 use Rattle.std.proofs.Common.{◌≡◌, ℕ, zero, suc, ◌+◌, ◌-◌, ◌<◌, ◌≤◌, Bool, true, false, List, length, get_or, sym, refl, ap, ◌∙◌, subst, le_trans, le_refl, add-zero, le_of_lt, add-suc, arith, lit<}
 use Rattle.math.specs.Float.{one}
-use Rattle.keys.specs.declared.Lit.{Lit}
-use Rattle.keys.specs.declared.Lit.TheVariants as lit
+use Rattle.std.specs.Prelude.{Option}
+use Rattle.std.specs.declared.option.Option.TheVariants as option
+use Rattle.keys.specs.declared.Key.{Key}
 use Rattle.keys.specs.Keys.{rows, columns}
 use Rattle.schedule.specs.Time.{time_at, samples_in}
 use Rattle.schedule.specs.Dialling.{in_tone}
@@ -36,9 +37,9 @@ column-low (suc (suc zero)) = lit< tt
 column-low (suc (suc (suc zero))) = lit< tt
 column-low (suc (suc (suc (suc column)))) = lit< tt
 
-key-audible : (key : Lit) → Audible (key_sound key)
-key-audible (lit.Key row column) = (row_low row, column-low column)
-key-audible lit.None = tt
+key-audible : (key : Option Key) → Audible (key_sound key)
+key-audible (option.Some key) = (row_low key.row, column-low key.column)
+key-audible option.None = tt
 
 ring-audible : (on : Bool) → Audible (ring_sound on)
 ring-audible true = (lit< tt, lit< tt)

@@ -1,8 +1,7 @@
 -- 02, E14: "Keys, dial tone and ringback are mixed from it .. gaps and other stages give 0". What sounds is read from the state that the float
 -- overture makes its own sample from, so that "stage edges and T are the float overture's".
-use Rattle.std.specs.Prelude.{ℕ, zero, suc, Bool, true, false, not, ◌&&◌, ◌||◌, List, [], ◌∷◌, ℤ, pos, ◌==◌, slice_index}
-use Rattle.keys.specs.declared.Lit.{Lit}
-use Rattle.keys.specs.declared.Lit.TheVariants as lit
+use Rattle.std.specs.Prelude.{ℕ, zero, suc, Bool, true, false, not, ◌&&◌, ◌||◌, List, [], ◌∷◌, ℤ, pos, ◌==◌, slice_index, Option, Some, None}
+use Rattle.keys.specs.declared.Key.{Key}
 use Rattle.keys.specs.Keys.{rows, columns}
 use Rattle.schedule.specs.Time.{time_at}
 use Rattle.schedule.specs.Ringback.{ring_time, ring_tone}
@@ -15,9 +14,9 @@ use Rattle.handset.specs.declared.Sound.TheVariants.{Silent, Tones}
 use Rattle.handset.specs.Tone.{step_of, phase_after, mixed_at}
 
 -- a key sounds its row's and its column's tone; none is a gap, or no digit at all
-abbrev pub key_sound : Lit → Sound
-key_sound (lit.Key row column) = Tones (slice_index rows row) (slice_index columns column)
-key_sound lit.None = Silent
+abbrev pub key_sound : Option Key → Sound
+key_sound (Some key) = Tones (slice_index rows key.row) (slice_index columns key.column)
+key_sound None = Silent
 
 -- 01, "Stages", 4: 400 and 450 in tone
 abbrev pub ring_sound : Bool → Sound

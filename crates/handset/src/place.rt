@@ -9,7 +9,7 @@ ghost use Rattle.handset.specs.Sound.{key_sound, ring_sound};
 ghost use Rattle.handset.specs.Runs.{edges_of, rung_before, rung_with, silent_run, dial_tone_run, Placed, DialledRun, RungRun, IsRun};
 
 use crate::{Edges, Run, Sound};
-use keys::Lit;
+use keys::Key;
 
 // Q.23's, in whole hertz.
 const ROWS: [u32; 4] = [697, 770, 852, 941];
@@ -36,16 +36,16 @@ fn column_hertz(column: u8) -> u32
     0
 }
 
-fn key_sound(key: Lit) -> Sound
+fn key_sound(key: Option<Key>) -> Sound
     ensures { result ≡ key_sound key }
 {
     match key {
-        Lit::Key { row, column } => {
+        Some(Key { row, column }) => {
             let low = row_hertz(row);
             let high = column_hertz(column);
             Sound::Tones { low, high }
         }
-        Lit::None => Sound::Silent,
+        None => Sound::Silent,
     }
 }
 

@@ -1,39 +1,23 @@
 -- A key has one of the four rows and one of the four columns, so its tones are one of the four low and one of the four high ones; and at its row
--- and column the keypad has the key itself. A key's place is below 16, and a search that has passed some keys goes on among the rest. Assumes nothing.
+-- and column the keypad has the key itself. Assumes nothing.
 use Prim.Native.Nat.{ℕ, zero, suc, ◌+◌, ◌*◌, ◌/◌, ◌%◌, ◌<◌, ◌≤◌}
 use native.Mathlib.Nat.{not-suc-le-zero, le_of_suc-le-suc}
-use native.Mathlib.Numerals.{add-one}
 use native.Mathlib.Omega.{arith}
 use mathlib.Core.Path.{◌≡◌, refl, sym, ap, ◌∙◌}
 use mathlib.Core.Bool.{Bool, true, false, cond}
 use mathlib.Core.List.{List, [], ◌∷◌, map}
 use lib.Dec.{eqb}
 use lib.Ieee.{nan}
-use lib.ListN.{length, get_or, drop, drop_of_length-le}
-use lib.Seq.{drop-cons}
+use lib.ListN.{length, get_or}
 use borrow.Author.Tests.{ltb-true, eqb-true}
-use Rattle.keys.specs.declared.Tones.TheVariants.{Key, NoKey}
-use Rattle.keys.specs.Keys.{rows, columns, keypad, place_in, key_place, key_row, key_column, is_key, hertz, tones_at, tones_of, key_at, NamesKey}
-
--- the search, key after key
-pub place_found : (b : ℕ) (ks : List ℕ) (i : ℕ) → i < length ks → eqb b (get_or ks i 0) ≡ true → place_in b (drop i ks) + i ≡ i
-place_found b ks i h e = rw (drop-cons ks i 0 h, e) (omega arith)
-
-pub place-passed : (b : ℕ) (ks : List ℕ) (i : ℕ) → i < length ks → eqb b (get_or ks i 0) ≡ false → place_in b (drop i ks) + i ≡ place_in b (drop (i + 1) ks) + (i + 1)
-place-passed b ks i h e = rw (add-one, drop-cons ks i 0 h, e) (omega arith)
-
-pub place_none : (b : ℕ) (ks : List ℕ) (i : ℕ) → length ks ≤ i → place_in b (drop i ks) + i ≡ i
-place_none b ks i h = rw (drop_of_length-le ks h) (omega arith)
+use Rattle.std.specs.Prelude.{Some, None}
+use Rattle.std.proofs.lemmas.List.Sums.{passes_at_first}
+use Rattle.std.proofs.lemmas.List.Quantifiers.{position-Some}
+use Rattle.keys.specs.Keys.{rows, columns, keypad, place_in, key_place, place_of, key_row, key_column, is_key, hertz, tones_at, tones_of, key_at, NamesKey}
 
 -- what is found among some keys is the one at its place
 at_its_place : (b : ℕ) (ks : List ℕ) → place_in b ks < length ks → get_or ks (place_in b ks) 0 ≡ b
-at_its_place b [] h = absurd (not-suc-le-zero h)
-at_its_place b (k ∷ ks) h = go (eqb b k) refl h (at_its_place b ks)
-  where
-    go : (t : Bool) → eqb b k ≡ t → cond t 0 (suc (place_in b ks)) < suc (length ks) → (place_in b ks < length ks → get_or ks (place_in b ks) 0 ≡ b)
-        → get_or (k ∷ ks) (cond t 0 (suc (place_in b ks))) 0 ≡ b
-    go true e h later = sym (eqb-true b k e)
-    go false e h later = later (le_of_suc-le-suc h)
+at_its_place b ks h = eqb-true _ b (passes_at_first (λ k. eqb k b) ks 0 h)
 
 -- the frequencies as the code has them
 pub tone-at : (ns : List ℕ) (k : ℕ) → k < length ns → get_or (map hertz ns) k nan ≡ hertz (get_or ns k 0)
@@ -64,7 +48,11 @@ module _ (b : ℕ) (key : is_key b ≡ true) where
       whole : (p : ℕ) → 4 * (p / 4) + p % 4 ≡ p
       whole p = omega arith
 
-  pub key-tones : tones_of b ≡ Key (hertz (get_or rows (key_row b) 0)) (hertz (get_or columns (key_column b) 0)) (key_row b) (key_column b)
+  pub key-tones : tones_of b ≡ Some (record {
+    low = hertz (get_or rows (key_row b) 0);
+    high = hertz (get_or columns (key_column b) 0);
+    key = record { row = key_row b; column = key_column b };
+  })
   unfolding tones_of
   key-tones = rw key
 
@@ -77,9 +65,29 @@ names_key b = go (is_key b) refl
     go true e = (key_row_lem b e, key-column b e, key-named b e)
     go false e = tt
 
-pub no-tones : (b : ℕ) → is_key b ≡ false → tones_of b ≡ NoKey
+pub no-tones : (b : ℕ) → is_key b ≡ false → tones_of b ≡ None
 unfolding tones_of
 no-tones b e = rw e
+
+-- and where the search finds a place, or none, they are those of the place, or none
+pub placed : (b place : ℕ) → Some place ≡ place_of b → tones_at true (place / 4) (place % 4) ≡ tones_of b
+unfolding tones_of is_key key_row key_column
+placed b place e = go (is_key b) e
+  where
+    go : (t : Bool) → Some place ≡ cond t (Some (key_place b)) None → tones_at true (place / 4) (place % 4) ≡ tones_at t (key_place b / 4) (key_place b % 4)
+    go true e = let p : place ≡ key_place b = cc in rw p
+    go false e = cc
+
+pub place-within : (b place : ℕ) → Some place ≡ place_of b → place < 16
+place-within b place e = (position-Some (λ k. eqb k b) keypad place 0 (sym e)).0
+
+pub unplaced : (b : ℕ) → None ≡ place_of b → None ≡ tones_of b
+unfolding tones_of is_key
+unplaced b e = go (is_key b) (sym e)
+  where
+    go : (t : Bool) → cond t (Some (key_place b)) None ≡ None → None ≡ tones_at t (key_row b) (key_column b)
+    go true e = cc
+    go false e = refl
 
 pub low-between : (k : ℕ) → k < 4 → (697 ≤ get_or rows k 0) × (get_or rows k 0 ≤ 941)
 low-between = each-of-four (λ (k : ℕ). (697 ≤ get_or rows k 0) × (get_or rows k 0 ≤ 941)) (omega arith) (omega arith) (omega arith) (omega arith)

@@ -1,11 +1,11 @@
 -- 01, "Keys and frames": Q.23's keypad with the two tones of each key, and the digits of a dial line. And 02, E8: a key's row and column.
-use Rattle.std.specs.Prelude.{ℕ, suc, ◌+◌, ◌-◌, ◌*◌, ◌/◌, ◌%◌, ◌<◌, ◌≡◌, Bool, true, false, cond, ◌&&◌, List, [], ◌∷◌, ◌++◌, map, eqb, ltb, Float, pos, length, get_or, take, replicate}
+use Rattle.std.specs.Prelude.{ℕ, ◌+◌, ◌-◌, ◌*◌, ◌/◌, ◌%◌, ◌<◌, ◌≡◌, Bool, true, false, cond, ◌&&◌, List, [], ◌∷◌, ◌++◌, map, ◌==◌, ltb, Float, pos, length, get_or, take, replicate, Option, Some, None}
+use Rattle.std.specs.List.{position_or_len, position}
 use Rattle.std.specs.Float.{binary64}
 use Rattle.std.specs.Float.Ieee.{of_int}
 use Rattle.ascii.specs.Ascii.{ascii}
 use Rattle.ascii.specs.Upper.{upper}
 use Rattle.keys.specs.declared.Tones.{Tones}
-use Rattle.keys.specs.declared.Tones.TheVariants.{Key, NoKey}
 use Rattle.keys.specs.declared.Digits.{Digits}
 
 -- rows 697, 770, 852, 941 Hz
@@ -22,11 +22,14 @@ keypad = ascii "123A456B789C*0#D"
 
 -- the first place of a byte among some keys, counted from 0; their number if it is none of them
 abbrev pub place_in : ℕ → List ℕ → ℕ
-place_in b [] = 0
-place_in b (k ∷ ks) = cond (eqb b k) 0 (suc (place_in b ks))
+place_in b ks = position_or_len (λ k. k == b) ks
 
 abbrev pub key_place : ℕ → ℕ
 key_place b = place_in b keypad
+
+-- the same, where the byte is a key
+abbrev pub place_of : ℕ → Option ℕ
+place_of b = position (λ k. k == b) keypad
 
 unfoldable pub key_row : ℕ → ℕ
 key_row b = key_place b / 4
@@ -42,12 +45,13 @@ abbrev pub hertz : ℕ → Float
 hertz n = of_int binary64 (pos n)
 
 -- 02, E8: "the row and column, 0 to 3 each, beside the two frequencies"
-abbrev pub tones_at : Bool → ℕ → ℕ → Tones
-tones_at true row column = Key (hertz (get_or rows row 0)) (hertz (get_or columns column 0)) row column
-tones_at false row column = NoKey
+abbrev pub tones_at : Bool → ℕ → ℕ → Option Tones
+tones_at true row column =
+    Some (record { low = hertz (get_or rows row 0); high = hertz (get_or columns column 0); key = record { row = row; column = column } })
+tones_at false row column = None
 
 -- a key's tones are those of its row and its column
-unfoldable pub tones_of : ℕ → Tones
+unfoldable pub tones_of : ℕ → Option Tones
 tones_of b = tones_at (is_key b) (key_row b) (key_column b)
 
 -- the keypad's entry at a row and a column
@@ -55,9 +59,9 @@ abbrev pub key_at : ℕ → ℕ → ℕ
 key_at row column = get_or keypad (4 * row + column) 0
 
 -- "row and column name the same Q.23 key as the digit"
-abbrev pub NamesKey : ℕ → Tones → Type 0
-NamesKey b (Key low high row column) = (row < 4) × (column < 4) × (key_at row column ≡ b)
-NamesKey b NoKey = Unit {0}
+abbrev pub NamesKey : ℕ → Option Tones → Type 0
+NamesKey b (Some tones) = (tones.key.row < 4) × (tones.key.column < 4) × (key_at tones.key.row tones.key.column ≡ b)
+NamesKey b None = Unit {0}
 
 -- the keys among the bytes, others dropped
 unfoldable pub keys_of : List ℕ → List ℕ

@@ -2,7 +2,7 @@
 #![tactic(auto)]
 
 ghost use Rattle.std.specs.Prelude.{◌≡◌};
-ghost use Rattle.keys.specs.Keys.{key_place, is_key, tones_of, NamesKey, all_keys, dialled_of};
+ghost use Rattle.keys.specs.Keys.{place_of, is_key, tones_of, NamesKey, all_keys, dialled_of};
 
 // Row by row, four keys to a row.
 const KEYPAD: [u8; 16] = *b"123A456B789C*0#D";
@@ -11,23 +11,19 @@ const ROWS: [f64; 4] = [697.0, 770.0, 852.0, 941.0];
 
 const COLS: [f64; 4] = [1209.0, 1336.0, 1477.0, 1633.0];
 
-// The two frequencies of a key, its row's and its column's, and where it stands on the keypad: row and column, from 0.
+// A key, by its place on the keypad: row and column, from 0.
 #[derive(Clone, Copy)]
-pub enum Tones {
-    Key {
-        low: f64,
-        high: f64,
-        row: u8,
-        column: u8,
-    },
-    NoKey,
+pub struct Key {
+    pub row: u8,
+    pub column: u8,
 }
 
-// The key that a drawing of the keypad lights.
+// The two frequencies of a key, its row's and its column's, and the key.
 #[derive(Clone, Copy)]
-pub enum Lit {
-    Key { row: u8, column: u8 },
-    None,
+pub struct Tones {
+    pub low: f64,
+    pub high: f64,
+    pub key: Key,
 }
 
 // The digits of a call: the first `len` bytes, and zeros behind them.
@@ -37,44 +33,36 @@ pub struct Digits {
     pub len: usize,
 }
 
-// Where a key stands on the keypad, counted row by row; 16 for a byte that is no key.
-fn key_place(b: u8) -> usize
-    ensures { result ≡ key_place b }
+// Where a key stands on the keypad, counted row by row.
+fn key_place(b: u8) -> Option<usize>
+    ensures { result ≡ place_of b }
 {
-    let mut i: usize = 0;
-    while i < 16 {
-        if KEYPAD[i] == b {
-            return i;
-        }
-        i += 1;
-    }
-    16
+    KEYPAD.iter().position(|key| *key == b)
 }
 
+#[tactic(auto, unfolding(crate::specs::Keys::is_key))]
 pub fn is_key(b: u8) -> bool
     ensures { result ≡ is_key b }
 {
-    key_place(b) < 16
+    key_place(b).is_some()
 }
 
-pub fn dtmf_freqs(b: u8) -> Tones
+// The tones of a key; none for a byte that is no key.
+pub fn dtmf_freqs(b: u8) -> Option<Tones>
     ensures value { result ≡ tones_of b }
     ensures names_key { NamesKey b result }
 {
-    let place = key_place(b);
-    if place < 16 {
-        let low = ROWS[place / 4];
-        let high = COLS[place % 4];
-        let row = (place / 4) as u8;
-        let column = (place % 4) as u8;
-        return Tones::Key {
-            low,
-            high,
-            row,
-            column,
-        };
-    }
-    Tones::NoKey
+    let place = key_place(b)?;
+    let row = place / 4;
+    let column = place % 4;
+    Some(Tones {
+        low: ROWS[row],
+        high: COLS[column],
+        key: Key {
+            row: row as u8,
+            column: column as u8,
+        },
+    })
 }
 
 // The digits of a dial line's bytes after ATDT: uppercased, others dropped, order kept. A line has no more than 76 such bytes.

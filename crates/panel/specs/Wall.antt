@@ -1,9 +1,8 @@
 -- 01, "Proving cases", the program `wall`: the set after a line's call, and what is printed for the line.
-use Rattle.std.specs.Prelude.{ℕ, ◌*◌, Bool, true, false, ◌&&◌, List, [], ◌∷◌, ◌++◌, leb, ltb, eqb, length, Result}
+use Rattle.std.specs.Prelude.{ℕ, ◌*◌, Bool, true, false, ◌&&◌, List, [], ◌∷◌, ◌++◌, leb, ltb, eqb, length, Result, Option, None}
 use Rattle.console.specs.declared.lines.Call.{Call}
 use Rattle.console.specs.declared.lines.Call.TheVariants as call
-use Rattle.keys.specs.declared.Lit.{Lit}
-use Rattle.keys.specs.declared.Lit.TheVariants as lit
+use Rattle.keys.specs.declared.Key.{Key}
 use Rattle.reply.specs.declared.Reply.{Reply}
 use Rattle.reply.specs.declared.Reply.TheVariants as reply
 use Rattle.reply.specs.Codes.{first_of, second_of}
@@ -158,9 +157,9 @@ kept_after room kept (call.Queued byte) = kept
 kept_after room kept call.Other = kept
 
 -- the key that is kept: that which the last fill answered; none after R
-abbrev pub lit_after : Lit → Second → Lit
+abbrev pub lit_after : Option Key → Second → Option Key
 lit_after was (second.Filled n key) = key
-lit_after was second.Made = lit.None
+lit_after was second.Made = None
 lit_after was (second.Sent sent) = was
 lit_after was (second.Cued sample key) = was
 lit_after was (second.String sent places) = was

@@ -4,7 +4,7 @@ ghost use Rattle.panel.specs.Wall.{kept_with, kept_after, lit_after};
 
 use crate::shown::Second;
 use console::lines::Call;
-use keys::Lit;
+use keys::Key;
 
 // How many bytes are kept.
 pub fn held(kept: usize, string: &[u8]) -> usize
@@ -46,12 +46,12 @@ pub fn after(call: Call, kept: usize, string: &mut [u8]) -> usize
 }
 
 // The key that is lit after a line: a fill answers one, and a set made anew has none yet.
-pub fn lit(was: Lit, second: Second) -> Lit
+pub fn lit(was: Option<Key>, second: Second) -> Option<Key>
     ensures { result ≡ lit_after was second }
 {
     match second {
         Second::Filled { n: _, key } => key,
-        Second::Made => Lit::None,
+        Second::Made => None,
         Second::Sent(_) => was,
         Second::Cued { sample: _, key: _ } => was,
         Second::String { sent: _, places: _ } => was,

@@ -10,7 +10,7 @@ ghost use Rattle.panel.specs.Wall.{read_after, shown_after, kept_after, lit_afte
 use console::lines::{Call, Parser, Pushed};
 use console::stream::Input;
 use deframe::Deframer;
-use keys::Lit;
+use keys::Key;
 use set::Set;
 use shown::Shown;
 use std::io;
@@ -37,7 +37,7 @@ struct Panel {
     // `tap --ext`: the reader's place
     reader: Deframer,
     // and the key that the last fill answered
-    lit: Lit,
+    lit: Option<Key>,
     // the input has not ended, and nothing has failed
     open: bool,
 }
@@ -78,7 +78,7 @@ fn fresh(extended: bool, bits: bool) -> Panel {
         at: 0,
         kept: 0,
         reader,
-        lit: Lit::None,
+        lit: None,
         open: true,
     }
 }
@@ -290,7 +290,7 @@ fn put_second(
     out: &mut [u8],
     at: usize,
     shown: Shown,
-    lit: Lit,
+    lit: Option<Key>,
     outbox: &[u8],
     codes: &[u8],
     samples: &[f32],

@@ -1,7 +1,7 @@
 // `tap`'s second line, written on a page that is a buffer.
 use crate::shown::{Second, Shown};
 use deframe::Unframed;
-use keys::Lit;
+use keys::Key;
 use set::Set;
 
 // What the call's second line tells.
@@ -9,7 +9,7 @@ pub fn put_bits(
     out: &mut [u8],
     at: usize,
     shown: Shown,
-    lit: Lit,
+    lit: Option<Key>,
     outbox: &[u8],
     codes: &[u8],
     samples: &[f32],
@@ -25,7 +25,7 @@ fn put_second(
     at: usize,
     set: Set,
     second: Second,
-    lit: Lit,
+    lit: Option<Key>,
     outbox: &[u8],
     codes: &[u8],
     samples: &[f32],
@@ -76,26 +76,26 @@ fn put_string(
     put_front(out, l, codes, places)
 }
 
-fn put_cue(out: &mut [u8], at: usize, sample: u64, key: Lit) -> usize {
+fn put_cue(out: &mut [u8], at: usize, sample: u64, key: Option<Key>) -> usize {
     let mut k = text::put(out, at, b"# cue=");
     k = text::put_decimal(out, k, sample);
     k = text::put(out, k, b" key=");
     put_key(out, k, key)
 }
 
-fn put_lit(out: &mut [u8], at: usize, lit: Lit) -> usize {
+fn put_lit(out: &mut [u8], at: usize, lit: Option<Key>) -> usize {
     let k = text::put(out, at, b"# key=");
     put_key(out, k, lit)
 }
 
 // Its row and its column.
-fn put_key(out: &mut [u8], at: usize, key: Lit) -> usize {
+fn put_key(out: &mut [u8], at: usize, key: Option<Key>) -> usize {
     match key {
-        Lit::Key { row, column } => {
+        Some(Key { row, column }) => {
             let k = text::put_decimal(out, at, row as u64);
             text::put_decimal(out, k, column as u64)
         }
-        Lit::None => text::put_byte(out, at, b'-'),
+        None => text::put_byte(out, at, b'-'),
     }
 }
 
@@ -117,8 +117,7 @@ fn put_frame(out: &mut [u8], at: usize, answer: Unframed) -> usize {
 }
 
 fn put_ring(out: &mut [u8], at: usize, set: Set) -> usize {
-    let r = set.ring_number();
-    let ring = r.ring;
+    let ring = set.ring_number().unwrap_or(0);
     let k = text::put(out, at, b"# ring=");
     text::put_decimal(out, k, ring as u64)
 }

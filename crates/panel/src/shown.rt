@@ -13,7 +13,7 @@ ghost use Rattle.panel.specs.Wall.{shown_of, nothing_shown, made_shown, typed_sh
 use crate::bits;
 use console::lines::Call;
 use deframe::{Reading, Unframed};
-use keys::Lit;
+use keys::Key;
 use refusal::Refusal;
 use reply::Reply;
 use report::Report;
@@ -27,9 +27,9 @@ pub enum Second {
     // the same of a set that was made
     Made,
     // the ring, and how many samples were filled; the key of the last is kept
-    Filled { n: usize, key: Lit },
+    Filled { n: usize, key: Option<Key> },
     // the cue's sample and its key
-    Cued { sample: u64, key: Lit },
+    Cued { sample: u64, key: Option<Key> },
     // the ring, and how many bytes of the outbox and places of the code buffer were filled
     String { sent: usize, places: usize },
     // how many bits were taken, and how many bytes of the outbox filled
@@ -164,7 +164,7 @@ fn fill(set: Set, samples: &mut [f32]) -> Shown
             show(filled.set, 0, Reply::None, Second::Filled { n, key }, true)
         }
         Err(refusal) => {
-            let key = Lit::None;
+            let key = None;
             declined(set, refusal, Second::Filled { n, key })
         }
     }
@@ -191,7 +191,7 @@ fn cued(set: Set, position: u8) -> Shown
         }
         Err(refusal) => {
             let sample = 0;
-            let key = Lit::None;
+            let key = None;
             declined(set, refusal, Second::Cued { sample, key })
         }
     }

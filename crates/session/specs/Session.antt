@@ -1,9 +1,8 @@
 -- 01, "The set": a session. It holds the state, the digits, m, the count of samples written since the dial line, the shown stage, and the
 -- stage's state.
-use Rattle.std.specs.Prelude.{ℕ, Bool, true, false, List, [], eqb, take, Float}
+use Rattle.std.specs.Prelude.{ℕ, Bool, true, false, List, [], eqb, take, Float, Option, None}
 use Rattle.keys.specs.Keys.{held, dialled_of}
-use Rattle.keys.specs.declared.Lit.{Lit}
-use Rattle.keys.specs.declared.Lit.TheVariants as lit
+use Rattle.keys.specs.declared.Key.{Key}
 use Rattle.stage.specs.declared.Shown.{Shown}
 use Rattle.stage.specs.declared.StageState.{StageState}
 use Rattle.stage.specs.declared.StageState.TheVariants as at
@@ -90,13 +89,13 @@ unfoldable pub written : Session → ℕ → ℕ → List Float
 written s b r = written_in s.state s b r
 
 -- 02, E8: the "key of its last sample, none in a gap, in another stage or after an empty or declined fill": in Dialling alone
-abbrev pub key_in : SessionState → Session → ℕ → ℕ → Lit
+abbrev pub key_in : SessionState → Session → ℕ → ℕ → Option Key
 key_in Dialling s b r = (shown_after b s.stage (digits_held s) r).key
-key_in Idle s b r = lit.None
-key_in Answering s b r = lit.None
-key_in Connected s b r = lit.None
+key_in Idle s b r = None
+key_in Answering s b r = None
+key_in Connected s b r = None
 
-unfoldable pub key_after : Session → ℕ → ℕ → Lit
+unfoldable pub key_after : Session → ℕ → ℕ → Option Key
 key_after s b r = key_in s.state s b r
 
 -- ring is reported while the next sample is Ringback's, else 0, and in Dialling alone

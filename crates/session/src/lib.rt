@@ -9,7 +9,7 @@ ghost use Rattle.passage.specs.Overture.{HasLength};
 ghost use Rattle.session.specs.Session.{state_number, digits_held, quiet_in, idle, answering, dialling, showing, filled_in, filled, written_in, written, key_in, key_after, ring_of, ring_number};
 ghost use Rattle.session.specs.declared.SessionState.TheVariants.{Dialling};
 
-use keys::{Digits, Lit};
+use keys::{Digits, Key};
 use stage::{Shown, Stage, StageState};
 
 #[derive(Clone, Copy)]
@@ -35,7 +35,7 @@ pub struct Session {
 #[derive(Clone, Copy)]
 pub struct Filled {
     pub session: Session,
-    pub key: Lit,
+    pub key: Option<Key>,
 }
 
 impl SessionState {
@@ -213,21 +213,21 @@ impl Session {
                 overture::silence(out);
                 Filled {
                     session: self,
-                    key: Lit::None,
+                    key: None,
                 }
             }
             SessionState::Answering => {
                 overture::silence(out);
                 Filled {
                     session: self,
-                    key: Lit::None,
+                    key: None,
                 }
             }
             SessionState::Connected => {
                 overture::silence(out);
                 Filled {
                     session: self,
-                    key: Lit::None,
+                    key: None,
                 }
             }
         }

@@ -13,7 +13,7 @@ use lib.ListN.{length}
 use Rattle.std.specs.Prelude.{Result}
 use Rattle.refusal.specs.declared.Refusal.{Refusal}
 use Rattle.keys.specs.declared.Digits.{Digits}
-use Rattle.keys.specs.declared.Lit.TheVariants as lit
+use Rattle.std.specs.declared.option.Option.TheVariants as option
 use Rattle.reply.specs.declared.Reply.TheVariants.{None}
 use Rattle.at.specs.Processor.{command_mode}
 use Rattle.at.specs.At.{forced_data}
@@ -152,7 +152,7 @@ module _ (s : Set) where
               lent = ap buffer_of (unchanged cause declined _ was);
               reply = refl;
               sent = refl;
-              key = untold cause declined _ lit.None _;
+              key = untold cause declined _ option.None _;
             };
       })
 

@@ -10,13 +10,12 @@ use lib.Dec.{leb, ltb, eqb}
 use lib.Ieee.{Float}
 use lib.ListN.{length}
 use borrow.Author.Tests.{ltb-false, eqb-true, eqb-false}
-use Rattle.std.specs.Prelude.{Result, Ok, Err}
+use Rattle.std.specs.Prelude.{Result, Ok, Err, Option, None}
 use Rattle.refusal.specs.declared.Refusal.{Refusal}
 use Rattle.refusal.specs.Refusal as refusal
 use Rattle.refusal.specs.Refusal.{answer_number}
 use Rattle.keys.specs.Keys.{held, digits_of}
-use Rattle.keys.specs.declared.Lit.{Lit}
-use Rattle.keys.specs.declared.Lit.TheVariants as lit
+use Rattle.keys.specs.declared.Key.{Key}
 use Rattle.keys.proofs.Line.{digits-whole, padded-front}
 use Rattle.stage.specs.declared.Stage.{Stage}
 use Rattle.stage.specs.declared.Shown.{Shown}
@@ -96,7 +95,7 @@ InLimits k (fills b) = b ≤ 65536
 InLimits k (queues byte) = is_full k.sending.queue ≡ false
 
 -- what a call does that comes to the entry
-pub record Effect (r : ℕ) (k : Book) (entry : Entry) (next : Set) (cause : Checked) (lights : Lit) (left : List Float) : Type 0 where
+pub record Effect (r : ℕ) (k : Book) (entry : Entry) (next : Set) (cause : Checked) (lights : Option Key) (left : List Float) : Type 0 where
   pub follows : Follows r (next_book r k entry) next
   pub sound : sound next ≡ true
   pub number : answer_number cause ≡ number_of entry
@@ -141,22 +140,25 @@ module _ (r : ℕ) (k : Book) (s : Set) (f : Follows r k s) where
   same-lapse ns carrier = rw (f.processor, f.state)
 
 -- ---- by the cause: a declined call changes neither book nor set, and has no key
-by-cause : (r : ℕ) (k : Book) (s : Set) → Invariant r k s → {X : Type 0} (cause : Checked) (entry : Entry) (answer : X) (set_of : X → Set) (key_of : X → Lit) (left : List Float)
+by-cause : (r : ℕ) (k : Book) (s : Set) → Invariant r k s → {X : Type 0} (cause : Checked) (entry : Entry) (answer : X) (set_of : X → Set) (key_of : X → Option Key) (left : List Float)
     → (answer_number cause ≡ 6 → ⊥)
     → (accepted cause ≡ true → Effect r k entry (set_of answer) (Ok tt) (key_of answer) left)
-    → Effect r k (unless_declined cause entry) (told set_of s (answered cause answer)) (checked (answered cause answer)) (told key_of lit.None (answered cause answer)) left
+    → Effect r k (unless_declined cause entry) (told set_of s (answered cause answer)) (checked (answered cause answer)) (told key_of None (answered cause answer)) left
 unfolding accepted
 by-cause r k s inv (Ok done) entry answer set_of key_of left never taken = taken refl
 by-cause r k s inv (Err cause) entry answer set_of key_of left never taken =
     record { follows = inv.follows; sound = inv.sound; number = refl; key = refl; limits = never; wrote = tt }
 
 -- a call that has no key has none, accepted or declined
-no_key : {X : Type 0} (answer : Result X Refusal) → told (λ (a : X). lit.None) lit.None answer ≡ lit.None
+abbrev keyless_of : {X : Type 0} → X → Option Key
+keyless_of answer = None
+
+no_key : {X : Type 0} (answer : Result X Refusal) → told keyless_of None answer ≡ None
 no_key (Ok answer) = refl
 no_key (Err cause) = refl
 
 keyless : (r : ℕ) (k : Book) (entry : Entry) (next : Set) (cause : Checked) (left : List Float) → {X : Type 0} (answer : Result X Refusal)
-    → Effect r k entry next cause (told (λ (a : X). lit.None) lit.None answer) left → Effect r k entry next cause lit.None left
+    → Effect r k entry next cause (told keyless_of None answer) left → Effect r k entry next cause None left
 keyless r k entry next cause left answer q = rw (no_key answer) at q
 
 typing-never-6 : (room : Bool) → answer_number (cause_of_typing true room) ≡ 6 → ⊥
@@ -176,14 +178,14 @@ module _ (r : ℕ) (k : Book) (s : Set) (inv : Invariant r k s) where
   good = rw inv.follows.processor at (ranges s inv.sound).processor
 
   pub typing-effect : (byte : ℕ) (carrier : Bool) (n : ℕ)
-      → Effect r k (entry_of k (typing byte carrier n)) (set_typed s (typed s byte carrier n)) (checked (typed s byte carrier n)) lit.None []
+      → Effect r k (entry_of k (typing byte carrier n)) (set_typed s (typed s byte carrier n)) (checked (typed s byte carrier n)) None []
   unfolding typed typing_cause entry_of
   typing-effect byte carrier n =
       let few = few-typed k.processor good byte (heard_in k.state carrier) n in
       let cause : Checked = cause_of_typing true (leb 4 n) in
       rw inv.sound
       (keyless r k _ _ _ [] (answered cause (byte_typed s byte carrier n))
-      (by-cause r k s inv cause _ (byte_typed s byte carrier n) (λ (a : Typed). a.set) (λ (a : Typed). lit.None) []
+      (by-cause r k s inv cause _ (byte_typed s byte carrier n) (λ (a : Typed). a.set) keyless_of []
       (typing-never-6 (leb 4 n))
       (λ _. record {
         follows = rw (same-fed r k s inv.follows byte carrier n) (applies r k s inv.follows (fed_by k byte carrier n).control _ _ few);
@@ -195,7 +197,7 @@ module _ (r : ℕ) (k : Book) (s : Set) (inv : Invariant r k s) where
       })))
 
   pub time-effect : (ns : ℕ) (carrier : Bool)
-      → Effect r k (entry_of k (time ns carrier)) (set_lapsed s (lapsed s ns carrier)) (checked (lapsed s ns carrier)) lit.None []
+      → Effect r k (entry_of k (time ns carrier)) (set_lapsed s (lapsed s ns carrier)) (checked (lapsed s ns carrier)) None []
   unfolding lapsed lapse_cause entry_of
   time-effect ns carrier =
       rw inv.sound (record {
@@ -207,7 +209,7 @@ module _ (r : ℕ) (k : Book) (s : Set) (inv : Invariant r k s) where
         wrote = tt;
       })
 
-  pub forcing-effect : Effect r k (entry_of k forcing) (set_left s (forced s)) (checked (forced s)) lit.None []
+  pub forcing-effect : Effect r k (entry_of k forcing) (set_left s (forced s)) (checked (forced s)) None []
   unfolding forced forced_cause entry_of controlled
   forcing-effect =
       rw inv.sound (record {
@@ -438,7 +440,7 @@ has_room true e = absurd (true≢false (sym e))
 has_room false e = refl
 
 pub queuing-effect : (r : ℕ) (k : Book) (s : Set) → Invariant r k s → (byte : ℕ)
-    → Effect r k (entry_of k (queuing byte)) (set_left s (byte_queued s byte)) (checked (byte_queued s byte)) lit.None []
+    → Effect r k (entry_of k (queuing byte)) (set_left s (byte_queued s byte)) (checked (byte_queued s byte)) None []
 unfolding byte_queued queuing_cause entry_of
 queuing-effect r k s inv byte =
     let f = inv.follows in
@@ -449,7 +451,7 @@ queuing-effect r k s inv byte =
     let on = next-sending r (ok r k s inv) k (queues byte) inv.sending in
     rw (inv.sound, same)
     (keyless r k _ _ _ [] (answered (cause_of_queuing true full) (moved s s.processor s.session (queued s.sending byte)))
-    (by-cause r k s inv (cause_of_queuing true full) (queues byte) (moved s s.processor s.session (queued s.sending byte)) (λ (a : Set). a) (λ (a : Set). lit.None) []
+    (by-cause r k s inv (cause_of_queuing true full) (queues byte) (moved s s.processor s.session (queued s.sending byte)) (λ (a : Set). a) keyless_of []
     (queuing-never-6 full)
     (λ allowed. record {
       follows = record { rate = f.rate; processor = f.processor; state = f.state; digits = f.digits; count = f.count; shown = f.shown; stage = f.stage; sending = longer };

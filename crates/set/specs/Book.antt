@@ -1,8 +1,7 @@
 -- 01, "The list of demand 3": the book, kept from the rate r, the calls and their arguments alone. It never reads the set.
-use Rattle.std.specs.Prelude.{ℕ, zero, suc, ◌+◌, Bool, true, false, List, [], Ok, Err, leb, ltb, eqb, Float, length}
+use Rattle.std.specs.Prelude.{ℕ, zero, suc, ◌+◌, Bool, true, false, List, [], Ok, Err, leb, ltb, eqb, Float, length, Option, None}
 use Rattle.keys.specs.Keys.{digits_of}
-use Rattle.keys.specs.declared.Lit.{Lit}
-use Rattle.keys.specs.declared.Lit.TheVariants as lit
+use Rattle.keys.specs.declared.Key.{Key}
 use Rattle.schedule.specs.Length.{total}
 use Rattle.stage.specs.Stage.{stage_of, stage_number, key_of}
 use Rattle.overture.specs.Iteration as iteration
@@ -59,8 +58,8 @@ stage_of_sample digits r zero = 0
 stage_of_sample digits r (suc i) = stage_number (stage_of (iteration.after i (iteration.fresh digits r) digits r))
 
 -- 02, E8: and the key of its sample i
-unfoldable pub key_of_sample : List ℕ → ℕ → ℕ → Lit
-key_of_sample digits r zero = lit.None
+unfoldable pub key_of_sample : List ℕ → ℕ → ℕ → Option Key
+key_of_sample digits r zero = None
 key_of_sample digits r (suc i) = key_of (iteration.after i (iteration.fresh digits r) digits r) digits
 
 -- ---- typing, time and forced data step its AT processor
@@ -133,21 +132,21 @@ entry_of k (filling b) = unless_declined (cause_of_fill true (ltb 65536 b)) (fil
 entry_of k (queuing byte) = unless_declined (cause_of_queuing true (is_full k.sending.queue)) (queues byte)
 
 -- 02, E8: the key that it answers: of a fill in Dialling that of sample count, which is its last; an empty one has none, and so has any other call
-abbrev pub key_by : List ℕ → ℕ → ℕ → ℕ → Lit
-key_by digits r count zero = lit.None
+abbrev pub key_by : List ℕ → ℕ → ℕ → ℕ → Option Key
+key_by digits r count zero = None
 key_by digits r count (suc b) = key_of_sample digits r (count + suc b)
 
-abbrev pub key_in : SessionState → ℕ → Book → ℕ → Lit
+abbrev pub key_in : SessionState → ℕ → Book → ℕ → Option Key
 key_in Dialling r k b = key_by k.digits r k.count b
-key_in Idle r k b = lit.None
-key_in Answering r k b = lit.None
-key_in Connected r k b = lit.None
+key_in Idle r k b = None
+key_in Answering r k b = None
+key_in Connected r k b = None
 
-abbrev pub key_of_entry : ℕ → Book → Entry → Lit
-key_of_entry r k (declined cause) = lit.None
-key_of_entry r k (asks control line p) = lit.None
+abbrev pub key_of_entry : ℕ → Book → Entry → Option Key
+key_of_entry r k (declined cause) = None
+key_of_entry r k (asks control line p) = None
 key_of_entry r k (fills b) = key_in k.state r k b
-key_of_entry r k (queues byte) = lit.None
+key_of_entry r k (queues byte) = None
 
 -- the number that it is declined with; 0 for none
 abbrev pub number_of : Entry → ℕ
@@ -166,7 +165,7 @@ next_book r k (queues byte) = sending_now (queued k.sending byte) k
 abbrev pub declined_with : Book → Call → ℕ
 declined_with k call = number_of (entry_of k call)
 
-abbrev pub key_answered : ℕ → Book → Call → Lit
+abbrev pub key_answered : ℕ → Book → Call → Option Key
 key_answered r k call = key_of_entry r k (entry_of k call)
 
 unfoldable pub entered : ℕ → Book → Call → Book

@@ -1,9 +1,8 @@
 -- 01, "The set" and "When a call is declined": the public calls. Each has its cause; a declined call has no reply, sends 0 bytes, and leaves the
 -- set and what is lent to it as they were.
-use Rattle.std.specs.Prelude.{ℕ, Bool, true, false, List, [], leb, ltb, eqb, length, Float, Result}
+use Rattle.std.specs.Prelude.{ℕ, Bool, true, false, List, [], leb, ltb, eqb, length, Float, Result, Option, None}
 use Rattle.ascii.specs.Front.{put}
-use Rattle.keys.specs.declared.Lit.{Lit}
-use Rattle.keys.specs.declared.Lit.TheVariants as lit
+use Rattle.keys.specs.declared.Key.{Key}
 use Rattle.reply.specs.declared.Reply.{Reply}
 use Rattle.reply.specs.declared.Reply.TheVariants as reply
 use Rattle.at.specs.declared.AtProcessor.{AtProcessor}
@@ -171,8 +170,8 @@ reply_lapsed answer = told (λ (a : Lapsed). a.reply) reply.None answer
 abbrev pub set_filled : Set → Result Filled Refusal → Set
 set_filled s answer = told (λ (a : Filled). a.set) s answer
 
-abbrev pub key_filled : Result Filled Refusal → Lit
-key_filled answer = told (λ (a : Filled). a.key) lit.None answer
+abbrev pub key_filled : Result Filled Refusal → Option Key
+key_filled answer = told (λ (a : Filled). a.key) None answer
 
 abbrev pub set_left : Set → Result Set Refusal → Set
 set_left s answer = told (λ (a : Set). a) s answer

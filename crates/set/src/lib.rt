@@ -14,7 +14,7 @@ ghost use Rattle.set.specs.String.{set_by, sent_by, codes_by, at_front, string_c
 
 use at::{AtProcessor, Control};
 use command::Line;
-use keys::{Digits, Lit};
+use keys::{Digits, Key};
 use refusal::Refusal;
 use reply::Reply;
 use sender::Sending;
@@ -71,7 +71,7 @@ pub struct Lapsed {
 pub struct Filled {
     pub set: Set,
     // that of the last sample
-    pub key: Lit,
+    pub key: Option<Key>,
 }
 
 fn fresh(rate: u32) -> Set
@@ -332,7 +332,7 @@ impl Set {
                     sending: played,
                     ..self
                 },
-                key: Lit::None,
+                key: None,
             });
         }
         let filled = session.process_out(self.rate, out);

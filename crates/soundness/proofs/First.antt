@@ -10,6 +10,7 @@ use borrow.Author.Tests.{lt-ltb}
 use Rattle.math.specs.Float.{of_nat, one}
 use Rattle.math.proofs.Values.{one_value}
 use Rattle.frame.specs.Frame.{ci_payload, cm_jm_payload, cj_payload, training_payload}
+use Rattle.std.specs.Prelude.{Option}
 use Rattle.keys.specs.declared.Tones.{Tones}
 use Rattle.keys.specs.Keys.{rows, columns, is_key, key_row, key_column, tones_of}
 use Rattle.keys.proofs.Keypad.{key_row_lem, key-column, key-tones, no-tones, low-between, high-between}
@@ -39,11 +40,11 @@ digit-hertz digits i = go (get_or digits i 0) _ refl
   where
     go : (b : ℕ) (k : Bool) → is_key b ≡ k → KeyHertz (tones_for (tones_of b))
     go b true e =
-        subst (λ (t : Tones). KeyHertz (tones_for t)) (sym (key-tones b e)) (
+        subst (λ (t : Option Tones). KeyHertz (tones_for t)) (sym (key-tones b e)) (
           hertz (get_or rows (key_row b) 0) (le_trans (low-between (key_row b) (key_row_lem b e)).1 (lit≤ tt)),
           hertz (get_or columns (key_column b) 0) (le_trans (high-between (key_column b) (key-column b e)).1 (lit≤ tt)),
         )
-    go b false e = subst (λ (t : Tones). KeyHertz (tones_for t)) (sym (no-tones b e)) (one-hertz, one-hertz)
+    go b false e = subst (λ (t : Option Tones). KeyHertz (tones_for t)) (sym (no-tones b e)) (one-hertz, one-hertz)
 
 -- ---- stages
 first-digit : (d : ℕ) → digit_ok 0 d ≡ true

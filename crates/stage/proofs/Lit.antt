@@ -6,7 +6,7 @@ use mathlib.Core.Bool.{true, false}
 use mathlib.Core.List.{List}
 use lib.ListN.{get_or}
 use Rattle.nco.specs.declared.Nco.{Nco}
-use Rattle.keys.specs.declared.Lit.TheVariants as lit
+use Rattle.std.specs.Prelude.{Some, None}
 use Rattle.keys.specs.Keys.{is_key, key_row, key_column}
 use Rattle.tones.proofs.Lit.{digit-lit, gap-dark}
 use Rattle.stage.specs.declared.Stage.TheVariants as stage
@@ -15,13 +15,13 @@ use Rattle.stage.specs.declared.StageState.TheVariants.{OffHook, DialTone, Diall
 use Rattle.stage.specs.Stage.{stage_of, key_of, waiting_of}
 
 module _ (digits : List ℕ) (i : ℕ) (a b : Nco) (n : ℕ) where
-  pub tone-lit : is_key (get_or digits i 0) ≡ true → key_of (Dialling i true a b n) digits ≡ lit.Key (key_row (get_or digits i 0)) (key_column (get_or digits i 0))
+  pub tone-lit : is_key (get_or digits i 0) ≡ true → key_of (Dialling i true a b n) digits ≡ Some (record { row = key_row (get_or digits i 0); column = key_column (get_or digits i 0) })
   tone-lit key = digit-lit digits i key
 
-  pub gap-is-dark : key_of (Dialling i false a b n) digits ≡ lit.None
+  pub gap-is-dark : key_of (Dialling i false a b n) digits ≡ None
   gap-is-dark = gap-dark digits i
 
-pub other-stage-dark : (s : StageState) (digits : List ℕ) → (stage_of s ≡ stage.Dialling → ⊥) → key_of s digits ≡ lit.None
+pub other-stage-dark : (s : StageState) (digits : List ℕ) → (stage_of s ≡ stage.Dialling → ⊥) → key_of s digits ≡ None
 other-stage-dark (Dialling i on a b n) digits other = absurd (other refl)
 other-stage-dark (OffHook rng n) digits other = refl
 other-stage-dark (DialTone a b n) digits other = refl
@@ -33,5 +33,5 @@ other-stage-dark (Cj f z) digits other = refl
 other-stage-dark (Training f) digits other = refl
 other-stage-dark Connected digits other = refl
 
-pub waiting-dark : (s : StageState) → (waiting_of s).key ≡ lit.None
+pub waiting-dark : (s : StageState) → (waiting_of s).key ≡ None
 waiting-dark s = refl

@@ -1,7 +1,6 @@
 -- 01, "Stages": the ten stages, by number, and their order; and what is shown of a sample.
-use Rattle.std.specs.Prelude.{ℕ, List}
-use Rattle.keys.specs.declared.Lit.{Lit}
-use Rattle.keys.specs.declared.Lit.TheVariants as lit
+use Rattle.std.specs.Prelude.{ℕ, List, Option, None}
+use Rattle.keys.specs.declared.Key.{Key}
 use Rattle.tones.specs.Dial.{dialled_key}
 use Rattle.stage.specs.declared.Stage.{Stage}
 use Rattle.stage.specs.declared.Stage.TheVariants as stage
@@ -48,17 +47,17 @@ stage_of (Training f) = stage.Training
 stage_of Connected = stage.Connected
 
 -- 02, E8: the key of a state's next sample, by the pair of digit and tone that the state holds; "none in a gap, in another stage"
-abbrev pub key_of : StageState → List ℕ → Lit
+abbrev pub key_of : StageState → List ℕ → Option Key
 key_of (Dialling i on a b n) digits = dialled_key digits i on
-key_of (OffHook rng n) digits = lit.None
-key_of (DialTone a b n) digits = lit.None
-key_of (Ringback a b n ring) digits = lit.None
-key_of (Ci f) digits = lit.None
-key_of (Ansam c e n) digits = lit.None
-key_of (CmJm f) digits = lit.None
-key_of (Cj f z) digits = lit.None
-key_of (Training f) digits = lit.None
-key_of Connected digits = lit.None
+key_of (OffHook rng n) digits = None
+key_of (DialTone a b n) digits = None
+key_of (Ringback a b n ring) digits = None
+key_of (Ci f) digits = None
+key_of (Ansam c e n) digits = None
+key_of (CmJm f) digits = None
+key_of (Cj f z) digits = None
+key_of (Training f) digits = None
+key_of Connected digits = None
 
 -- what is shown of a state's next sample
 abbrev pub shown_of : StageState → List ℕ → Shown
@@ -66,4 +65,4 @@ shown_of s digits = record { stage = stage_of s; key = key_of s digits }
 
 -- and where no sample was made: its stage, and no key
 abbrev pub waiting_of : StageState → Shown
-waiting_of s = record { stage = stage_of s; key = lit.None }
+waiting_of s = record { stage = stage_of s; key = None }

@@ -7,7 +7,7 @@ ghost use Rattle.stage.specs.Stage.{stage_number, next_stage, stage_of, key_of, 
 ghost use Rattle.stage.specs.Enter.{enter_of};
 
 use fsk::FskChannel;
-use keys::Lit;
+use keys::Key;
 use nco::Nco;
 
 const DIAL_TONE_A: f64 = 350.0;
@@ -93,7 +93,7 @@ pub enum StageState {
 #[derive(Clone, Copy)]
 pub struct Shown {
     pub stage: Stage,
-    pub key: Lit,
+    pub key: Option<Key>,
 }
 
 impl Stage {
@@ -171,7 +171,7 @@ impl StageState {
     }
 
     // The key of the next sample. Only a digit's tone has one.
-    fn key(self, digits: &[u8]) -> Lit
+    fn key(self, digits: &[u8]) -> Option<Key>
         ensures { result ≡ key_of self digits.now }
     {
         match self {
@@ -182,27 +182,27 @@ impl StageState {
                 b: _,
                 n: _,
             } => tones::dialled_key(digits, digit_i, in_tone),
-            StageState::OffHook { rng: _, n: _ } => Lit::None,
-            StageState::DialTone { a: _, b: _, n: _ } => Lit::None,
+            StageState::OffHook { rng: _, n: _ } => None,
+            StageState::DialTone { a: _, b: _, n: _ } => None,
             StageState::Ringback {
                 a: _,
                 b: _,
                 n: _,
                 ring: _,
-            } => Lit::None,
-            StageState::Ci(_) => Lit::None,
+            } => None,
+            StageState::Ci(_) => None,
             StageState::Ansam {
                 carrier: _,
                 env: _,
                 n: _,
-            } => Lit::None,
-            StageState::CmJm(_) => Lit::None,
+            } => None,
+            StageState::CmJm(_) => None,
             StageState::Cj {
                 fsk: _,
                 silence_n: _,
-            } => Lit::None,
-            StageState::Training(_) => Lit::None,
-            StageState::Connected => Lit::None,
+            } => None,
+            StageState::Training(_) => None,
+            StageState::Connected => None,
         }
     }
 
@@ -220,10 +220,7 @@ impl StageState {
         ensures { result ≡ waiting_of self }
     {
         let stage = self.stage();
-        Shown {
-            stage,
-            key: Lit::None,
-        }
+        Shown { stage, key: None }
     }
 }
 

@@ -1,12 +1,10 @@
 -- 01, "Stages", 3: a sample of what is dialled, and the digit, its tone and its oscillators after it.
-use Rattle.std.specs.Prelude.{ℕ, Bool, true, false, ◌&&◌, ◌||◌, List, length, ◌==◌, nat_le, slice_index, Float}
+use Rattle.std.specs.Prelude.{ℕ, Bool, true, false, ◌&&◌, ◌||◌, List, length, ◌==◌, nat_le, slice_index, Float, Option, Some, None}
 use Rattle.std.specs.Bool.{beq}
 use Rattle.math.specs.Float.{zero, one, of_nat}
 use Rattle.nco.specs.Nco.{fresh_nco}
 use Rattle.keys.specs.declared.Tones.{Tones}
-use Rattle.keys.specs.declared.Tones.TheVariants.{Key, NoKey}
-use Rattle.keys.specs.declared.Lit.{Lit}
-use Rattle.keys.specs.declared.Lit.TheVariants as lit
+use Rattle.keys.specs.declared.Key.{Key}
 use Rattle.keys.specs.Keys.{tones_of}
 use Rattle.schedule.specs.Time.{time_at}
 use Rattle.schedule.specs.Dialling.{digit_at, in_tone}
@@ -17,18 +15,18 @@ use Rattle.tones.specs.declared.Dialled.{Dialled}
 use Rattle.tones.specs.Mixed.{gated_of}
 
 -- a key's two frequencies; 1 Hz where there is no key. 02, E8: and the key
-abbrev pub tones_for : Tones → KeyTones
-tones_for (Key low high row column) = record { low = low; high = high; key = lit.Key row column }
-tones_for NoKey = record { low = one; high = one; key = lit.None }
+abbrev pub tones_for : Option Tones → KeyTones
+tones_for (Some tones) = record { low = tones.low; high = tones.high; key = Some tones.key }
+tones_for None = record { low = one; high = one; key = None }
 
 -- those of the digit at position i
 unfoldable pub digit_tones : List ℕ → ℕ → KeyTones
 digit_tones digits i = tones_for (tones_of (slice_index digits i))
 
 -- 02, E8: the key of a sample is that of the digit in whose tone it is, "none in a gap"
-unfoldable pub dialled_key : List ℕ → ℕ → Bool → Lit
+unfoldable pub dialled_key : List ℕ → ℕ → Bool → Option Key
 dialled_key digits i true = (digit_tones digits i).key
-dialled_key digits i false = lit.None
+dialled_key digits i false = None
 
 -- i >= d, or the same pair of digit and tone as before
 unfoldable pub pair_stays : ℕ → ℕ → Bool → ℕ → Bool → Bool

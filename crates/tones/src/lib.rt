@@ -7,7 +7,7 @@ ghost use Rattle.tones.specs.Samples.{shifted, click_sample, mixed, ansam_sample
 ghost use Rattle.tones.specs.Mixed.{gated_of, answer_of};
 ghost use Rattle.tones.specs.Dial.{tones_for, digit_tones, dialled_key, pair_stays, taken_over, dial_step_of};
 
-use keys::{Lit, Tones};
+use keys::{Key, Tones};
 use nco::Nco;
 
 const ANSAM_AM_DEPTH: f64 = 0.3;
@@ -33,7 +33,7 @@ pub struct Mixed {
 pub struct KeyTones {
     pub low: f64,
     pub high: f64,
-    pub key: Lit,
+    pub key: Option<Key>,
 }
 
 // What is dialled: a digit's position, its tone or the gap after it, and its oscillators.
@@ -108,24 +108,19 @@ pub fn gated(on: bool, a: Nco, b: Nco) -> Mixed
     Mixed { sample: 0.0, a, b }
 }
 
-fn key_tones(t: Tones) -> KeyTones
-    ensures { result ≡ tones_for t }
+fn key_tones(tones: Option<Tones>) -> KeyTones
+    ensures { result ≡ tones_for tones }
 {
-    match t {
-        Tones::Key {
+    match tones {
+        Some(Tones { low, high, key }) => KeyTones {
             low,
             high,
-            row,
-            column,
-        } => KeyTones {
-            low,
-            high,
-            key: Lit::Key { row, column },
+            key: Some(key),
         },
-        Tones::NoKey => KeyTones {
+        None => KeyTones {
             low: 1.0,
             high: 1.0,
-            key: Lit::None,
+            key: None,
         },
     }
 }
@@ -142,14 +137,14 @@ pub fn digit_tones(digits: &[u8], i: u64) -> KeyTones
 }
 
 // The key of a sample: the digit's in its tone, none in the gap after it.
-pub fn dialled_key(digits: &[u8], i: u64, tone: bool) -> Lit
+pub fn dialled_key(digits: &[u8], i: u64, tone: bool) -> Option<Key>
     ensures { result ≡ dialled_key digits.now i tone }
 {
     if tone {
         let tones = digit_tones(digits, i);
         return tones.key;
     }
-    Lit::None
+    None
 }
 
 // Whether the pair of digit and tone stays: at the end, or where it did not change.

@@ -8,7 +8,7 @@ use lib.Dec.{leb}
 use borrow.Author.Tests.{eq-eqb}
 use lib.ListN.{length}
 use lib.Ieee.{Float}
-use Rattle.keys.specs.declared.Lit.TheVariants as lit
+use Rattle.std.specs.declared.option.Option.TheVariants as option
 use Rattle.reply.specs.declared.Reply.TheVariants.{None}
 use Rattle.control.specs.Control.{heard_in}
 use Rattle.set.specs.declared.Set.{Set}
@@ -79,18 +79,18 @@ module _ (c : Chip) where
   write-declined address value carrier was cause = write-by (sound c) (leb address 7) address value carrier was cause
 
   fill-by : (ok : Bool) (was : List Float) → Declined (fill_if ok c (length was)).refusal
-      → ((fill_if ok c (length was)).chip ≡ c) × ((fill_if ok c (length was)).key ≡ lit.None) × (buffer_if ok c was ≡ was)
+      → ((fill_if ok c (length was)).chip ≡ c) × ((fill_if ok c (length was)).key ≡ option.None) × (buffer_if ok c was ≡ was)
   unfolding cause_number set.fill set.buffer
   fill-by false was cause = (refl, refl, refl)
   fill-by true was cause = (
     ap (λ (s : Set). moved c s None c.registers.flag) (unchanged _ cause _ c.set) ∙ at_rest c,
-    unchanged _ cause _ lit.None,
+    unchanged _ cause _ option.None,
     unchanged _ cause _ was,
   )
 
   -- a fill: no key, the chip and the buffer as they were
   pub fill-declined : (was : List Float) → Declined (filled c (length was)).refusal
-      → ((filled c (length was)).chip ≡ c) × ((filled c (length was)).key ≡ lit.None) × (buffer c was ≡ was)
+      → ((filled c (length was)).chip ≡ c) × ((filled c (length was)).key ≡ option.None) × (buffer c was ≡ was)
   unfolding filled buffer
   fill-declined was cause = fill-by (sound c) was cause
 

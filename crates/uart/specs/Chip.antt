@@ -1,6 +1,6 @@
 -- 02, E13: the chip, and its calls: read, write, lapse, fill. Causes are checked in 02's order; a declined call changes nothing.
 use Rattle.std.specs.Prelude.{ℕ, zero, suc, Bool, true, false, not, ◌&&◌, List, [], ◌∷◌, leb, get_or, Float}
-use Rattle.keys.specs.declared.Lit.TheVariants as lit
+use Rattle.std.specs.declared.option.Option.TheVariants as option
 use Rattle.queue.specs.Queue.{is_empty, oldest, queue_ok}
 use Rattle.reply.specs.declared.Reply.{Reply}
 use Rattle.reply.specs.declared.Reply.TheVariants.{None}
@@ -162,7 +162,7 @@ abbrev pub fill_taken : Chip → Filled → Fill
 fill_taken c f = record { chip = moved c f.set None c.registers.flag; refusal = BySet f.refusal; key = f.key }
 
 abbrev pub fill_if : (ok : Bool) → Chip → ℕ → Fill
-fill_if false c b = record { chip = c; refusal = BySet Unsound; key = lit.None }
+fill_if false c b = record { chip = c; refusal = BySet Unsound; key = option.None }
 fill_if true c b = fill_taken c (set.fill c.set b)
 
 unfoldable pub filled : Chip → ℕ → Fill

@@ -10,7 +10,7 @@ ghost use Rattle.uart.specs.Inbox.{closed, text_of_reply, came, received};
 ghost use Rattle.uart.specs.Registers.{first_of, identification, line_status, modem_status, differ, settled, with_enable, stored, value_at};
 ghost use Rattle.uart.specs.Chip.{started, sound, dcd, moved, value_of, chip_after, text_read, identified, line_status_read, modem_status_read, read_if, read, write_declined, transmitted, written, write_if, write, outbox_if, outbox, lapse_taken, lapsed, fill_taken, filled, buffer};
 
-use keys::Lit;
+use keys::Key;
 use queue::Queue;
 use reply::{Code, Reply};
 use session::SessionState;
@@ -84,7 +84,7 @@ pub struct Fill {
     pub chip: Chip,
     pub refusal: Cause,
     // that of the last sample
-    pub key: Lit,
+    pub key: Option<Key>,
 }
 
 impl Cause {
@@ -608,7 +608,7 @@ impl Chip {
         Fill {
             chip: self,
             refusal: Cause::BySet(Refusal::Unsound),
-            key: Lit::None,
+            key: None,
         }
     }
 

@@ -4,7 +4,7 @@ use Prim.Native.Nat.{ℕ}
 use mathlib.Core.Path.{◌≡◌, refl, ap}
 use mathlib.Core.Bool.{Bool, true}
 use mathlib.Core.List.{List, [], ◌∷◌, ◌++◌, map}
-use Rattle.keys.specs.declared.Lit.TheVariants as lit
+use Rattle.std.specs.Prelude.{None}
 use Rattle.queue.specs.Queue.{waiting}
 use Rattle.set.specs.declared.Set.{Set}
 use Rattle.set.specs.Book.{Call, Book, blank, length_of}
@@ -101,7 +101,7 @@ module _ (rate : ℕ) (answer : Start) (d : start.Learnt tt (rate, tt) answer (r
       pub declined-sent : e.sent ≡ 0
       declined-sent = unchanged.sent
 
-      pub declined-key : e.key ≡ lit.None
+      pub declined-key : e.key ≡ None
       declined-key = unchanged.key
 
     pub value-is : e.value ≡ value_by before e.ask

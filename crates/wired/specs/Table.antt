@@ -1,8 +1,8 @@
 -- 02, E13: "that register table", kept from the rate r, the calls and their arguments alone, over the claim's book. It never reads the chip.
-use Rattle.std.specs.Prelude.{ℕ, zero, suc, Bool, true, false, not, ◌||◌, List, [], ◌∷◌, ◌++◌, leb, ltb, eqb, length, take, drop, get_or}
+use Rattle.std.specs.Prelude.{ℕ, zero, suc, Bool, true, false, not, ◌||◌, List, [], ◌∷◌, ◌++◌, leb, ltb, eqb, length, take, drop, get_or, Option}
 use Rattle.ascii.specs.Front.{put}
-use Rattle.keys.specs.declared.Lit.{Lit}
-use Rattle.keys.specs.declared.Lit.TheVariants as lit
+use Rattle.std.specs.declared.option.Option.TheVariants as option
+use Rattle.keys.specs.declared.Key.{Key}
 use Rattle.reply.specs.declared.Reply.{Reply}
 use Rattle.reply.specs.declared.Reply.TheVariants.{None}
 use Rattle.at.specs.At.{sent}
@@ -86,10 +86,10 @@ outbox_by t (to_write (suc address) value carrier room) was = was
 outbox_by t (to_wait ns carrier) was = was
 outbox_by t (to_fill b) was = was
 
-abbrev pub key_by : ℕ → Table → Ask → Lit
-key_by r t (to_read address) = lit.None
-key_by r t (to_write address value carrier room) = lit.None
-key_by r t (to_wait ns carrier) = lit.None
+abbrev pub key_by : ℕ → Table → Ask → Option Key
+key_by r t (to_read address) = option.None
+key_by r t (to_write address value carrier room) = option.None
+key_by r t (to_wait ns carrier) = option.None
 key_by r t (to_fill b) = key_answered r t.book (filling b)
 
 -- ---- what a read leaves: the first byte waiting leaves; transmitter empty is given; overrun ends; DCD's delta ends

@@ -1,8 +1,7 @@
 -- 02, E13: "every list of register calls with lapses and fills between". Each call is made on the chip that the one before returned, and did what its own
 -- contract promises. And the calls of the set inside that such a list makes.
-use Rattle.std.specs.Prelude.{ℕ, zero, suc, ◌≡◌, Bool, List, [], ◌∷◌, Float, length}
-use Rattle.keys.specs.declared.Lit.{Lit}
-use Rattle.keys.specs.declared.Lit.TheVariants as lit
+use Rattle.std.specs.Prelude.{ℕ, zero, suc, ◌≡◌, Bool, List, [], ◌∷◌, Float, length, Option, None}
+use Rattle.keys.specs.declared.Key.{Key}
 use Rattle.set.specs.Set as set
 use Rattle.set.specs.Event as inner
 use Rattle.set.specs.Event.{Lent, nothing, outbox_of, buffer_of, typed_event, lapsed_event, filled_event}
@@ -24,13 +23,13 @@ pub record Event : Type 0 where
   pub refusal : Cause
   pub value : ℕ
   pub sent : ℕ
-  pub key : Lit
+  pub key : Option Key
   pub lent : Lent
   pub left : Lent
 
 abbrev pub read_event : ℕ → Read → Event
 read_event address a =
-    record { ask = to_read address; chip = a.chip; refusal = a.refusal; value = a.value; sent = 0; key = lit.None; lent = nothing; left = nothing }
+    record { ask = to_read address; chip = a.chip; refusal = a.refusal; value = a.value; sent = 0; key = None; lent = nothing; left = nothing }
 
 abbrev pub write_event : (address value : ℕ) → Bool → (was left : List ℕ) → Written → Event
 write_event address value carrier was left a =
@@ -40,14 +39,14 @@ write_event address value carrier was left a =
       refusal = a.refusal;
       value = 0;
       sent = a.sent;
-      key = lit.None;
+      key = None;
       lent = outbox_of was;
       left = outbox_of left;
     }
 
 abbrev pub wait_event : ℕ → Bool → Lapse → Event
 wait_event ns carrier a =
-    record { ask = to_wait ns carrier; chip = a.chip; refusal = a.refusal; value = 0; sent = 0; key = lit.None; lent = nothing; left = nothing }
+    record { ask = to_wait ns carrier; chip = a.chip; refusal = a.refusal; value = 0; sent = 0; key = None; lent = nothing; left = nothing }
 
 abbrev pub fill_event : (was left : List Float) → Fill → Event
 fill_event was left a =
@@ -107,4 +106,4 @@ pub record Unchanged (c : Chip) (e : Event) : Type 0 where
   pub lent : e.left ≡ e.lent
   pub value : e.value ≡ 0
   pub sent : e.sent ≡ 0
-  pub key : e.key ≡ lit.None
+  pub key : e.key ≡ None
