@@ -19,9 +19,9 @@ fn typed(set: Set, bytes: &[u8]) -> Set {
     let mut outbox = [0u8; 4];
     let mut i: usize = 0;
     while i < bytes.len() {
-        let t = s.feed(bytes[i], false, &mut outbox);
-        let next = t.set;
-        s = next;
+        s = s
+            .feed(bytes[i], false, &mut outbox)
+            .map_or(s, |typed| typed.set);
         i += 1;
     }
     s
@@ -47,9 +47,9 @@ fn filled(set: Set, part: usize, out: &mut [f32]) -> Set {
     while at < out.len() {
         let left = out.len() - at;
         let end = at + least(left, part);
-        let f = s.process_out(&mut out[at..end]);
-        let next = f.set;
-        s = next;
+        s = s
+            .process_out(&mut out[at..end])
+            .map_or(s, |filled| filled.set);
         at = end;
     }
     s
@@ -59,9 +59,8 @@ fn skipped(set: Set, part: usize) -> Set
     requires { part ≤ 4096 }
 {
     let mut scratch = [0.0f32; 4096];
-    let from: usize = 0;
-    let f = set.process_out(&mut scratch[from..part]);
-    f.set
+    set.process_out(&mut scratch[..part])
+        .map_or(set, |filled| filled.set)
 }
 
 // A set that dialled the digits and played skip samples.
@@ -102,9 +101,7 @@ fn queued(set: Set) -> Set {
     let mut s = set;
     let mut i: usize = 0;
     while i < 256 {
-        let q = s.queue_byte(b'U');
-        let next = q.set;
-        s = next;
+        s = s.queue_byte(b'U').unwrap_or(s);
         i += 1;
     }
     s
@@ -138,10 +135,7 @@ pub extern "C" fn bench_sent(
 }
 
 fn filled_empty(set: Set) -> Set {
-    let mut none = [0.0f32; 1];
-    let from: usize = 0;
-    let f = set.process_out(&mut none[from..from]);
-    f.set
+    set.process_out(&mut []).map_or(set, |filled| filled.set)
 }
 
 // Empty fills, each of the set that the one before returned.
@@ -164,10 +158,10 @@ pub extern "C" fn bench_bytes(rate: u32, digits: &[u8], skip: usize, turns: u64)
     let mut sent: usize = 0;
     let mut i: u64 = 0;
     while i < turns {
-        let t = s.feed(b'A', true, &mut outbox);
-        let next = t.set;
-        sent = t.sent;
-        s = next;
+        if let Ok(typed) = s.feed(b'A', true, &mut outbox) {
+            sent = typed.sent;
+            s = typed.set;
+        }
         i += 1;
     }
     sent as u64
@@ -182,10 +176,10 @@ pub extern "C" fn bench_strings(rate: u32, digits: &[u8], skip: usize, turns: u6
     let mut sent: usize = 0;
     let mut i: u64 = 0;
     while i < turns {
-        let t = s.feed_all(b"ATDT5551234", true, &mut outbox, &mut codes);
-        let next = t.set;
-        sent = t.sent;
-        s = next;
+        if let Ok(typed) = s.feed_all(b"ATDT5551234", true, &mut outbox, &mut codes) {
+            sent = typed.sent;
+            s = typed.set;
+        }
         i += 1;
     }
     sent as u64

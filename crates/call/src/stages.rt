@@ -25,18 +25,18 @@ pub fn find_all(set: Set, samples: &mut [f32], firsts: &mut [u32]) -> Up {
 
 // An empty fill shows the stage of the sample after it, so what is searched is one sample at least.
 fn find_in(set: Set, n: usize, samples: &mut [f32], firsts: &mut [u32]) -> Set {
-    let none: usize = 0;
     let some = play::larger(n, 1);
     if some > samples.len() {
         return set;
     }
-    let filled = set.process_out(&mut samples[none..n]);
-    let next = filled.set;
+    let next = set
+        .process_out(&mut samples[..n])
+        .map_or(set, |filled| filled.set);
     note(
         set,
-        edges::icon(set).icon,
-        edges::icon(next).icon,
-        &mut samples[none..some],
+        edges::icon(set).unwrap_or(0),
+        edges::icon(next).unwrap_or(0),
+        &mut samples[..some],
         firsts,
     );
     next
@@ -47,8 +47,8 @@ fn note(set: Set, before: u8, after: u8, samples: &mut [f32], firsts: &mut [u32]
     let mut stage = before;
     while stage < after {
         stage += 1;
-        let found = edges::first_sample(set, stage, samples);
-        let first = std::num::wrapping_add_u32(set.m(), play::at_most(found.sample, u32::MAX));
+        let found = edges::first_sample(set, stage, samples).unwrap_or(0);
+        let first = std::num::wrapping_add_u32(set.m(), play::at_most(found, u32::MAX));
         put(firsts, stage as usize, first);
     }
 }

@@ -101,9 +101,11 @@ fn put_keys(page: &mut [u8], at: usize, dialled: Set, keys: &[u8], len: usize) -
     let mut k = at;
     let mut i: usize = 0;
     while i < keys.len() && i < len {
-        let cued = cue::cue(dialled, play::at_most(i, u32::MAX));
-        let key = cued.key;
-        k = put_key(page, k, keys[i], key, cued.sample, dialled.rate());
+        let (key, sample) = match cue::cue(dialled, play::at_most(i, u32::MAX)) {
+            Ok(cued) => (cued.key, cued.sample),
+            Err(_) => (None, 0),
+        };
+        k = put_key(page, k, keys[i], key, sample, dialled.rate());
         i += 1;
     }
     k

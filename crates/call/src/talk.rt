@@ -62,8 +62,7 @@ fn has_room(set: Set) -> bool {
 }
 
 fn queue_byte(set: Set, byte: u8) -> Set {
-    let answer = set.queue_byte(byte);
-    answer.set
+    set.queue_byte(byte).unwrap_or(set)
 }
 
 // The samples of the fills from the one behind `fill` others to the one in which the text's last frame ends.
@@ -93,8 +92,7 @@ pub fn fill(talk: Talk, message: &[u8], samples: &mut [f32]) -> Talk {
     let t = queue(talk, message);
     let set = t.set;
     let mark = mark_left(t, samples.len());
-    let filled = set.process_out(samples);
-    let next = filled.set;
+    let next = set.process_out(samples).map_or(set, |filled| filled.set);
     Talk {
         set: next,
         queued: t.queued,

@@ -2,6 +2,8 @@
 ghost use Rattle.std.specs.Prelude.{◌≤◌};
 
 use keys::Key;
+use refusal::Refusal;
+use reply::Reply;
 use set::Set;
 
 // All calls on a set.
@@ -59,9 +61,8 @@ pub fn made(output: &impl Print, rate: u32) {
     let mut page = [0u8; 128];
     let made = Set::new(rate);
     let set = made.set;
-    let refusal = made.refusal;
     let mut k = put_number(&mut page, 0, b"rate ", rate as u64);
-    k = put_number(&mut page, k, b" made ", refusal.number() as u64);
+    k = put_answer(&mut page, k, b" made ", &made.checked);
     k = put_number(&mut page, k, b" at ", set.rate() as u64);
     end(output, &mut page, k);
 }
@@ -89,8 +90,7 @@ pub(crate) fn string(output: &impl Print, name: &[u8], set: Set, string: &[u8], 
 // A fill of two samples, and what the sender and the bytes that wait have become.
 pub fn sender(output: &impl Print, name: &[u8], set: Set) {
     let mut page = [0u8; 256];
-    let answer = set.queue_byte(b'Q');
-    let queued = answer.set;
+    let queued = set.queue_byte(b'Q').unwrap_or(set);
     let mut k = text::put(&mut page, 0, name);
     k = put_sending(&mut page, k, set);
     k = text::put(&mut page, k, b", Q queued:");
@@ -100,8 +100,9 @@ pub fn sender(output: &impl Print, name: &[u8], set: Set) {
 
 fn put_sending(page: &mut [u8], at: usize, set: Set) -> usize {
     let mut samples = [1.23f32; 2];
-    let answer = set.process_out(&mut samples);
-    let after = answer.set;
+    let after = set
+        .process_out(&mut samples)
+        .map_or(set, |filled| filled.set);
     let mut k = put_bits(page, at, samples::bits(samples[0]) as u64, 8);
     k = put_bits(page, k, samples::bits(samples[1]) as u64, 8);
     k = put_number(page, k, b" m ", after.m() as u64);
@@ -127,10 +128,9 @@ pub fn fill_long(output: &impl Print, set: Set) {
     let mut samples = [1.23f32; 65537];
     let before = samples::fnv::hash_samples(samples::fnv::OFFSET, &samples);
     let answer = set.process_out(&mut samples);
-    let refusal = answer.refusal;
-    let key = answer.key;
+    let key = answer.map_or(None, |filled| filled.key);
     let after = samples::fnv::hash_samples(samples::fnv::OFFSET, &samples);
-    let mut k = put_number(&mut page, 0, b"fill of 65537 ", refusal.number() as u64);
+    let mut k = put_answer(&mut page, 0, b"fill of 65537 ", &answer);
     k = put_bits(&mut page, k, before, 16);
     k = put_bits(&mut page, k, after, 16);
     k = put_key(&mut page, k, key);
@@ -141,14 +141,13 @@ fn put_typed(page: &mut [u8], at: usize, set: Set, byte: u8, n: usize) -> usize
     requires { n ≤ 8 }
 {
     let mut outbox = [b'.'; 8];
-    let from: usize = 0;
-    let answer = set.feed(byte, false, &mut outbox[from..n]);
-    let refusal = answer.refusal;
-    let reply = answer.reply;
-    let mut k = put_number(page, at, b" typed ", refusal.number() as u64);
+    let answer = set.feed(byte, false, &mut outbox[..n]);
+    let reply = answer.map_or(Reply::None, |typed| typed.reply);
+    let sent = answer.map_or(0, |typed| typed.sent);
+    let mut k = put_answer(page, at, b" typed ", &answer);
     k = put_number(page, k, b" codes ", reply.first() as u64);
     k = put_number(page, k, b" ", reply.second() as u64);
-    k = put_number(page, k, b" sent ", answer.sent as u64);
+    k = put_number(page, k, b" sent ", sent as u64);
     put_outbox(page, k, &outbox)
 }
 
@@ -158,11 +157,10 @@ fn put_string(page: &mut [u8], at: usize, set: Set, string: &[u8], n: usize, m: 
 {
     let mut outbox = [b'.'; 16];
     let mut codes = [b'.'; 12];
-    let from: usize = 0;
-    let answer = set.feed_all(string, false, &mut outbox[from..n], &mut codes[from..m]);
-    let refusal = answer.refusal;
-    let mut k = put_number(page, at, b" string ", refusal.number() as u64);
-    k = put_number(page, k, b" sent ", answer.sent as u64);
+    let answer = set.feed_all(string, false, &mut outbox[..n], &mut codes[..m]);
+    let sent = answer.map_or(0, |typed| typed.sent);
+    let mut k = put_answer(page, at, b" string ", &answer);
+    k = put_number(page, k, b" sent ", sent as u64);
     k = put_sends(page, k, &outbox);
     put_codes(page, k, codes)
 }
@@ -187,22 +185,18 @@ fn put_four(page: &mut [u8], at: usize, a: u8, b: u8, c: u8, d: u8) -> usize {
 
 fn put_time(page: &mut [u8], at: usize, set: Set) -> usize {
     let answer = set.advance_time(1, false);
-    let refusal = answer.refusal;
-    put_number(page, at, b" time ", refusal.number() as u64)
+    put_answer(page, at, b" time ", &answer)
 }
 
 fn put_forced(page: &mut [u8], at: usize, set: Set) -> usize {
     let answer = set.force_data_mode();
-    let refusal = answer.refusal;
-    put_number(page, at, b" forced ", refusal.number() as u64)
+    put_answer(page, at, b" forced ", &answer)
 }
 
 fn put_queued(page: &mut [u8], at: usize, set: Set) -> usize {
     let answer = set.queue_byte(b'Q');
-    let refusal = answer.refusal;
-    let after = answer.set;
-    let k = put_number(page, at, b" queued ", refusal.number() as u64);
-    put_waiting(page, k, after)
+    let k = put_answer(page, at, b" queued ", &answer);
+    put_waiting(page, k, answer.unwrap_or(set))
 }
 
 // How many bytes wait, and what the first two places and the last hold.
@@ -219,9 +213,8 @@ fn put_waiting(page: &mut [u8], at: usize, set: Set) -> usize {
 fn put_filled(page: &mut [u8], at: usize, set: Set) -> usize {
     let mut samples = [1.23f32; 2];
     let answer = set.process_out(&mut samples);
-    let refusal = answer.refusal;
-    let key = answer.key;
-    let mut k = put_number(page, at, b" fill ", refusal.number() as u64);
+    let key = answer.map_or(None, |filled| filled.key);
+    let mut k = put_answer(page, at, b" fill ", &answer);
     k = put_bits(page, k, samples::bits(samples[0]) as u64, 8);
     k = put_bits(page, k, samples::bits(samples[1]) as u64, 8);
     put_key(page, k, key)
@@ -229,22 +222,22 @@ fn put_filled(page: &mut [u8], at: usize, set: Set) -> usize {
 
 // The readers that work their answer out.
 fn put_readers(page: &mut [u8], at: usize, set: Set) -> usize {
-    let rung = set.ring_number();
-    let ring_refusal = rung.refusal;
-    let shown = edges::icon(set);
-    let icon_refusal = shown.refusal;
-    let mut k = put_number(page, at, b" ring ", ring_refusal.number() as u64);
-    k = put_number(page, k, b" ", rung.ring as u64);
-    k = put_number(page, k, b" icon ", icon_refusal.number() as u64);
-    put_number(page, k, b" ", shown.icon as u64)
+    let k = put_worked_out(page, at, b" ring ", set.ring_number());
+    put_worked_out(page, k, b" icon ", edges::icon(set))
+}
+
+// 0 where it is declined.
+fn put_worked_out(page: &mut [u8], at: usize, label: &[u8], answer: Result<u8, Refusal>) -> usize {
+    let k = put_answer(page, at, label, &answer);
+    put_number(page, k, b" ", wide(answer.unwrap_or(0)))
 }
 
 fn put_cue(page: &mut [u8], at: usize, set: Set, position: u32) -> usize {
     let cued = cue::cue(set, position);
-    let refusal = cued.refusal;
-    let key = cued.key;
-    let mut k = put_number(page, at, b" cue ", refusal.number() as u64);
-    k = put_number(page, k, b" ", cued.sample);
+    let key = cued.map_or(None, |cued| cued.key);
+    let sample = cued.map_or(0, |cued| cued.sample);
+    let mut k = put_answer(page, at, b" cue ", &cued);
+    k = put_number(page, k, b" ", sample);
     put_key(page, k, key)
 }
 
@@ -257,6 +250,11 @@ fn put_key(page: &mut [u8], at: usize, key: Option<Key>) -> usize {
         }
         None => text::put(page, at, b" key -"),
     }
+}
+
+// The refusal's number, or 0.
+fn put_answer<T>(page: &mut [u8], at: usize, label: &[u8], answer: &Result<T, Refusal>) -> usize {
+    put_number(page, at, label, wide(refusal::answer_number(answer)))
 }
 
 pub fn put_number(page: &mut [u8], at: usize, label: &[u8], number: u64) -> usize {

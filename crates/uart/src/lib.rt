@@ -5,23 +5,16 @@
 ghost use Rattle.std.specs.Prelude.{◌≡◌, true, leb, length};
 ghost use Rattle.at.specs.Processor.{command_mode};
 ghost use Rattle.set.specs.Set as set;
-ghost use Rattle.uart.specs.Causes.{cause_number};
 ghost use Rattle.uart.specs.Inbox.{closed, text_of_reply, came, received};
 ghost use Rattle.uart.specs.Registers.{first_of, identification, line_status, modem_status, differ, settled, with_enable, stored, value_at};
-ghost use Rattle.uart.specs.Chip.{started, sound, dcd, moved, value_of, chip_after, text_read, identified, line_status_read, modem_status_read, read_if, read, write_declined, transmitted, written, write_if, write, outbox_if, outbox, lapse_taken, lapsed, fill_taken, filled, buffer};
+ghost use Rattle.uart.specs.Chip.{started, sound, dcd, moved, value_of, chip_after, text_read, identified, line_status_read, modem_status_read, read_if, read, transmitted, written, write_if, write, outbox_if, outbox, lapse_taken, lapsed, fill_taken, filled, buffer};
 
 use keys::Key;
 use queue::Queue;
+use refusal::Refusal;
 use reply::{Code, Reply};
 use session::SessionState;
-use set::{Refusal, Set};
-
-// Why a call is declined, if it is: the address, or the set's own cause.
-#[derive(Clone, Copy)]
-pub enum Cause {
-    Address,
-    BySet(Refusal),
-}
+use set::Set;
 
 // What the sheet's registers hold. Identification and the two status registers are worked out.
 #[derive(Clone, Copy)]
@@ -52,50 +45,31 @@ pub struct Chip {
     pub inbox: Inbox,
 }
 
+// A chip is handed out whatever the rate: at 8,000 where the rate is declined.
 #[derive(Clone, Copy)]
 pub struct Start {
     pub chip: Chip,
-    pub refusal: Cause,
+    pub checked: Result<(), Refusal>,
 }
 
 #[derive(Clone, Copy)]
 pub struct Read {
     pub chip: Chip,
-    pub refusal: Cause,
     pub value: u8,
 }
 
 #[derive(Clone, Copy)]
 pub struct Written {
     pub chip: Chip,
-    pub refusal: Cause,
     // bytes put into the outbox
     pub sent: usize,
 }
 
 #[derive(Clone, Copy)]
-pub struct Lapse {
-    pub chip: Chip,
-    pub refusal: Cause,
-}
-
-#[derive(Clone, Copy)]
 pub struct Fill {
     pub chip: Chip,
-    pub refusal: Cause,
     // that of the last sample
     pub key: Option<Key>,
-}
-
-impl Cause {
-    pub fn number(self) -> u8
-        ensures { result ≡ cause_number self }
-    {
-        match self {
-            Cause::Address => 15,
-            Cause::BySet(refusal) => refusal.number(),
-        }
-    }
 }
 
 impl Inbox {
@@ -292,7 +266,6 @@ impl Chip {
     {
         let made = Set::new(rate);
         let set = made.set;
-        let refusal = made.refusal;
         let registers = Registers {
             enable: 0,
             line: 0,
@@ -313,7 +286,7 @@ impl Chip {
                 registers,
                 inbox,
             },
-            refusal: Cause::BySet(refusal),
+            checked: made.checked,
         }
     }
 
@@ -470,60 +443,50 @@ impl Chip {
     }
 
     // A register is read.
-    pub fn read(self, address: u8) -> Read
+    #[tactic(auto, unfolding(crate::specs::Chip::read))]
+    pub fn read(self, address: u8) -> Result<Read, Refusal>
         ensures { result ≡ read self address }
     {
-        if self.sound() {
-            return self.read_sound(address);
+        if !self.sound() {
+            return Err(Refusal::Unsound);
         }
-        Read {
-            chip: self,
-            refusal: Cause::BySet(Refusal::Unsound),
-            value: 0,
-        }
+        self.read_sound(address)
     }
 
-    fn read_sound(self, address: u8) -> Read
+    fn read_sound(self, address: u8) -> Result<Read, Refusal>
         ensures { result ≡ read_if true (leb address 7) self address }
     {
         if address > 7 {
-            return Read {
-                chip: self,
-                refusal: Cause::Address,
-                value: 0,
-            };
+            return Err(Refusal::Address);
         }
         let value = self.value(address);
         let chip = self.after_read(address);
-        Read {
-            chip,
-            refusal: Cause::BySet(Refusal::Accepted),
-            value,
-        }
+        Ok(Read { chip, value })
     }
 
     // A register is written; a byte for address 0 is typed into the set.
-    pub fn write(self, address: u8, value: u8, carrier: bool, out: &mut [u8]) -> Written
+    #[tactic(auto, unfolding(crate::specs::Chip::write, crate::specs::Chip::outbox))]
+    pub fn write(self, address: u8, value: u8, carrier: bool, out: &mut [u8]) -> Result<Written, Refusal>
         ensures value { result ≡ write self address value carrier (length out.old) }
         ensures out_after { out.new ≡ outbox self address value out.old }
     {
-        if self.sound() {
-            return self.write_sound(address, value, carrier, out);
+        if !self.sound() {
+            return Err(Refusal::Unsound);
         }
-        declined(self, Cause::BySet(Refusal::Unsound))
+        self.write_sound(address, value, carrier, out)
     }
 
-    fn write_sound(self, address: u8, value: u8, carrier: bool, out: &mut [u8]) -> Written
+    fn write_sound(self, address: u8, value: u8, carrier: bool, out: &mut [u8]) -> Result<Written, Refusal>
         ensures value { result ≡ write_if true (leb address 7) self address value carrier (length out.old) }
         ensures out_after { out.new ≡ outbox_if true (leb address 7) self address value out.old }
     {
         if address > 7 {
-            return declined(self, Cause::Address);
+            return Err(Refusal::Address);
         }
         if address == 0 {
             return self.transmit(value, carrier, out);
         }
-        self.store(address, value)
+        Ok(self.store(address, value))
     }
 
     fn store(self, address: u8, value: u8) -> Written
@@ -536,106 +499,70 @@ impl Chip {
                 registers: next,
                 ..self
             },
-            refusal: Cause::BySet(Refusal::Accepted),
             sent: 0,
         }
     }
 
-    fn transmit(self, value: u8, carrier: bool, out: &mut [u8]) -> Written
+    fn transmit(self, value: u8, carrier: bool, out: &mut [u8]) -> Result<Written, Refusal>
         ensures value { result ≡ transmitted self carrier (set.typed self.set value carrier (length out.old)) }
         ensures out_after { out.new ≡ set.outbox self.set value out.old }
     {
         let set = self.set;
-        let typed = set.feed(value, carrier, out);
-        let next = typed.set;
-        let refusal = typed.refusal;
-        let reply = typed.reply;
-        if refusal.accepted() {
-            let moved = self.moved(next, reply, carrier);
-            let registers = moved.registers;
-            let emptied = Registers {
-                pending: true,
-                ..registers
-            };
-            return Written {
-                chip: Chip {
-                    registers: emptied,
-                    ..moved
-                },
-                refusal: Cause::BySet(Refusal::Accepted),
-                sent: typed.sent,
-            };
-        }
-        declined(self, Cause::BySet(refusal))
+        let typed = set.feed(value, carrier, out)?;
+        let moved = self.moved(typed.set, typed.reply, carrier);
+        let registers = moved.registers;
+        let emptied = Registers {
+            pending: true,
+            ..registers
+        };
+        Ok(Written {
+            chip: Chip {
+                registers: emptied,
+                ..moved
+            },
+            sent: typed.sent,
+        })
     }
 
     // Time passes, in nanoseconds.
-    pub fn lapse(self, ns: u64, carrier: bool) -> Lapse
+    #[tactic(auto, unfolding(crate::specs::Chip::lapsed))]
+    pub fn lapse(self, ns: u64, carrier: bool) -> Result<Chip, Refusal>
         ensures { result ≡ lapsed self ns carrier }
     {
-        if self.sound() {
-            return self.lapse_sound(ns, carrier);
+        if !self.sound() {
+            return Err(Refusal::Unsound);
         }
-        Lapse {
-            chip: self,
-            refusal: Cause::BySet(Refusal::Unsound),
-        }
+        self.lapse_sound(ns, carrier)
     }
 
-    fn lapse_sound(self, ns: u64, carrier: bool) -> Lapse
+    fn lapse_sound(self, ns: u64, carrier: bool) -> Result<Chip, Refusal>
         ensures { result ≡ lapse_taken self carrier (set.lapsed self.set ns carrier) }
     {
         let set = self.set;
-        let lapsed = set.advance_time(ns, carrier);
-        let next = lapsed.set;
-        let refusal = lapsed.refusal;
-        let reply = lapsed.reply;
-        let chip = self.moved(next, reply, carrier);
-        Lapse {
-            chip,
-            refusal: Cause::BySet(refusal),
-        }
+        let lapsed = set.advance_time(ns, carrier)?;
+        Ok(self.moved(lapsed.set, lapsed.reply, carrier))
     }
 
     // Fills the buffer with what the house hears next.
-    pub fn fill(self, out: &mut [f32]) -> Fill
+    #[tactic(auto, unfolding(crate::specs::Chip::filled, crate::specs::Chip::buffer))]
+    pub fn fill(self, out: &mut [f32]) -> Result<Fill, Refusal>
         ensures value { result ≡ filled self (length out.old) }
         ensures out_after { out.new ≡ buffer self out.old }
     {
-        if self.sound() {
-            return self.fill_sound(out);
+        if !self.sound() {
+            return Err(Refusal::Unsound);
         }
-        Fill {
-            chip: self,
-            refusal: Cause::BySet(Refusal::Unsound),
-            key: None,
-        }
+        self.fill_sound(out)
     }
 
-    fn fill_sound(self, out: &mut [f32]) -> Fill
+    fn fill_sound(self, out: &mut [f32]) -> Result<Fill, Refusal>
         ensures value { result ≡ fill_taken self (set.fill self.set (length out.old)) }
         ensures out_after { out.new ≡ set.buffer self.set out.old }
     {
         let set = self.set;
-        let filled = set.process_out(out);
-        let next = filled.set;
-        let refusal = filled.refusal;
+        let filled = set.process_out(out)?;
+        let chip = self.moved(filled.set, Reply::None, self.registers.flag);
         let key = filled.key;
-        let chip = self.moved(next, Reply::None, self.registers.flag);
-        Fill {
-            chip,
-            refusal: Cause::BySet(refusal),
-            key,
-        }
-    }
-}
-
-fn declined(chip: Chip, refusal: Cause) -> Written
-    ensures { result ≡ write_declined refusal chip }
-{
-    Written {
-        chip,
-        refusal,
-        sent: 0,
+        Ok(Fill { chip, key })
     }
 }
