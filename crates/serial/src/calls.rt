@@ -39,19 +39,17 @@ fn start(rate: u32, out: &mut [u8], at: usize) -> Told
     ensures at_after { page_of out.new result.at ≡ start_told (page_of out.old at) (uart.started rate) }
 {
     let a = Chip::new(rate);
-    let chip = a.chip;
-    let refusal = a.refusal;
-    nothing_sent(chip, refusal.number(), 0, out, at)
+    nothing_sent(a.chip, refusal::answer_number(&a.checked), 0, out, at)
 }
 
 fn read(chip: Chip, address: u8, out: &mut [u8], at: usize) -> Told
-    ensures chip_value { result.chip ≡ (uart.read chip address).chip }
-    ensures at_after { page_of out.new result.at ≡ read_told (page_of out.old at) (uart.read chip address) }
+    ensures chip_value { result.chip ≡ uart.chip_read chip (uart.read chip address) }
+    ensures at_after { page_of out.new result.at ≡ read_told (page_of out.old at) chip (uart.read chip address) }
 {
-    let a = chip.read(address);
-    let next = a.chip;
-    let refusal = a.refusal;
-    nothing_sent(next, refusal.number(), a.value, out, at)
+    match chip.read(address) {
+        Ok(read) => nothing_sent(read.chip, 0, read.value, out, at),
+        Err(refusal) => nothing_sent(chip, u8::from(refusal), 0, out, at),
+    }
 }
 
 // Into the first `n` bytes of an outbox.
@@ -64,8 +62,8 @@ fn write(
     out: &mut [u8],
     at: usize,
 ) -> Told
-    ensures chip_value { result.chip ≡ (uart.write chip address value carrier (length (lent_of n))).chip }
-    ensures at_after { page_of out.new result.at ≡ write_told (page_of out.old at) (uart.write chip address value carrier (length (lent_of n))) (uart.outbox chip address value (lent_of n)) }
+    ensures chip_value { result.chip ≡ uart.chip_written chip (uart.write chip address value carrier (length (lent_of n))) }
+    ensures at_after { page_of out.new result.at ≡ write_told (page_of out.old at) chip (uart.write chip address value carrier (length (lent_of n))) (uart.outbox chip address value (lent_of n)) }
 {
     let mut outbox = [0u8; 16];
     let from: usize = 0;
@@ -84,17 +82,19 @@ fn write_lent(
     out: &mut [u8],
     at: usize,
 ) -> Told
-    ensures chip_value { result.chip ≡ (uart.write chip address value carrier (length outbox.old)).chip }
-    ensures at_after { page_of out.new result.at ≡ write_told (page_of out.old at) (uart.write chip address value carrier (length outbox.old)) (uart.outbox chip address value outbox.old) }
+    ensures chip_value { result.chip ≡ uart.chip_written chip (uart.write chip address value carrier (length outbox.old)) }
+    ensures at_after { page_of out.new result.at ≡ write_told (page_of out.old at) chip (uart.write chip address value carrier (length outbox.old)) (uart.outbox chip address value outbox.old) }
 {
-    let a = chip.write(address, value, carrier, outbox);
-    let next = a.chip;
-    let refusal = a.refusal;
-    let sent = a.sent;
-    let end = put_front(next, refusal.number(), outbox, sent, out, at);
-    Told {
-        chip: next,
-        at: end,
+    match chip.write(address, value, carrier, outbox) {
+        Ok(written) => {
+            let next = written.chip;
+            let end = put_front(next, 0, outbox, written.sent, out, at);
+            Told {
+                chip: next,
+                at: end,
+            }
+        }
+        Err(refusal) => nothing_sent(chip, u8::from(refusal), 0, out, at),
     }
 }
 
@@ -110,19 +110,19 @@ fn put_front(chip: Chip, refusal: u8, outbox: &[u8], n: usize, out: &mut [u8], a
 }
 
 fn lapse(chip: Chip, ns: u64, carrier: bool, out: &mut [u8], at: usize) -> Told
-    ensures chip_value { result.chip ≡ (uart.lapsed chip ns carrier).chip }
-    ensures at_after { page_of out.new result.at ≡ lapse_told (page_of out.old at) (uart.lapsed chip ns carrier) }
+    ensures chip_value { result.chip ≡ uart.chip_left chip (uart.lapsed chip ns carrier) }
+    ensures at_after { page_of out.new result.at ≡ lapse_told (page_of out.old at) chip (uart.lapsed chip ns carrier) }
 {
-    let a = chip.lapse(ns, carrier);
-    let next = a.chip;
-    let refusal = a.refusal;
-    nothing_sent(next, refusal.number(), 0, out, at)
+    match chip.lapse(ns, carrier) {
+        Ok(next) => nothing_sent(next, 0, 0, out, at),
+        Err(refusal) => nothing_sent(chip, u8::from(refusal), 0, out, at),
+    }
 }
 
 // The first `n` samples, or all where there are no more.
 fn fill(chip: Chip, n: usize, samples: &mut [f32], out: &mut [u8], at: usize) -> Told
-    ensures chip_value { result.chip ≡ (uart.filled chip (length (take n samples.old))).chip }
-    ensures at_after { page_of out.new result.at ≡ fill_told (page_of out.old at) (uart.filled chip (length (take n samples.old))) }
+    ensures chip_value { result.chip ≡ uart.chip_filled chip (uart.filled chip (length (take n samples.old))) }
+    ensures at_after { page_of out.new result.at ≡ fill_told (page_of out.old at) chip (uart.filled chip (length (take n samples.old))) }
 {
     let from: usize = 0;
     if n < samples.len() {
@@ -132,13 +132,13 @@ fn fill(chip: Chip, n: usize, samples: &mut [f32], out: &mut [u8], at: usize) ->
 }
 
 fn fill_lent(chip: Chip, samples: &mut [f32], out: &mut [u8], at: usize) -> Told
-    ensures chip_value { result.chip ≡ (uart.filled chip (length samples.old)).chip }
-    ensures at_after { page_of out.new result.at ≡ fill_told (page_of out.old at) (uart.filled chip (length samples.old)) }
+    ensures chip_value { result.chip ≡ uart.chip_filled chip (uart.filled chip (length samples.old)) }
+    ensures at_after { page_of out.new result.at ≡ fill_told (page_of out.old at) chip (uart.filled chip (length samples.old)) }
 {
-    let a = chip.fill(samples);
-    let next = a.chip;
-    let refusal = a.refusal;
-    nothing_sent(next, refusal.number(), 0, out, at)
+    match chip.fill(samples) {
+        Ok(filled) => nothing_sent(filled.chip, 0, 0, out, at),
+        Err(refusal) => nothing_sent(chip, u8::from(refusal), 0, out, at),
+    }
 }
 
 fn nothing_sent(chip: Chip, refusal: u8, value: u8, out: &mut [u8], at: usize) -> Told
