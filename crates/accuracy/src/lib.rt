@@ -1,7 +1,7 @@
 // 02, E9, "How true the tone is": what it says of S, of the overture's samples and of a set's fill, at the functions in use.
 #![tactic(auto)]
 
-ghost use Rattle.std.specs.Prelude.{◌≡◌, true, ℕ, T, length, IsOk};
+ghost use Rattle.std.specs.Prelude.{◌≡◌, ℕ, T, length, IsOk};
 ghost use Rattle.std.specs.Float.Ieee.{le};
 ghost use Rattle.math.specs.Float.{zero, quarter_turn, plus, times};
 ghost use Rattle.math.specs.Sine.{sine};
