@@ -1,10 +1,12 @@
 // The program's own words, input and output, and what it says where one of them fails.
-ghost use Rattle.std.specs.Prelude.{◌≡◌, ◌≤◌, length, take};
+ghost use Rattle.std.specs.Prelude.{◌≡◌, ◌≤◌, false, length, take};
+ghost use Rattle.text.specs.Page.{fresh_page};
 
 use std::env::{Env, FillError};
 use std::fmt::Write;
+use std::io;
 use std::io::{ErrorKind, Read};
-use std::{fmt, io};
+use text::Page;
 
 // What a read gave.
 #[derive(Clone, Copy)]
@@ -48,51 +50,126 @@ pub fn has_word(words: &impl Env, place: usize) -> bool {
 
 // Writes a line to standard error: what failed, as the caller names it, a colon and the system's word for why.
 pub fn fail(errors: &impl Print, what: &[u8], why: io::Error) {
-    let word = Word::of(why);
+    let mut word = Page::<320>::new();
+    let _ = write!(word, "{why}");
+    let number = number_of(why);
+    let text = word.text();
     let _ = errors.write_all(what);
     let _ = errors.write_all(b": ");
-    let _ = flush(
-        errors,
-        &word.bytes,
-        word.len.saturating_sub(number_len(why)),
-    );
+    let _ = errors.write_all(text.strip_suffix(number.text()).unwrap_or(text));
     let _ = errors.write_all(b"\n");
 }
 
-// A short text, in the first bytes.
-#[derive(Drop)]
-struct Word {
-    bytes: [u8; 320],
-    len: usize,
-}
-
-impl Word {
-    fn new() -> Self {
-        Word {
-            bytes: [0; 320],
-            len: 0,
-        }
-    }
-
-    fn of(why: io::Error) -> Self {
-        let mut word = Word::new();
-        let _ = write!(word, "{why}");
-        word
-    }
-}
-
-impl fmt::Write for Word {
-    fn write_str(&mut self, text: &str) -> fmt::Result {
-        self.len = text::put(&mut self.bytes, self.len, text.as_bytes());
-        Ok(())
-    }
-}
-
-// How long the number of an error is, which std writes behind the system's word.
-fn number_len(why: io::Error) -> usize {
-    let mut number = Word::new();
+// The number of an error, as std writes it behind the system's word; nothing where it has none.
+fn number_of(why: io::Error) -> Page<320> {
+    let mut number = Page::new();
     if let Some(code) = why.raw_os_error() {
         let _ = write!(number, " (os error {code})");
     }
-    number.len
+    number
+}
+
+// What is answered and not yet written out.
+pub type Answers = Page<65536>;
+
+// Once there are more bytes than this, they are written out; those of one line fit into the room that is left.
+const FULL: usize = 60000;
+
+// A program that answers the bytes of its input.
+pub trait Program {
+    // Its name, which stands in front of what it says on standard error.
+    fn name(&self) -> &'static [u8];
+
+    // One byte more.
+    fn take(&mut self, byte: u8, answers: &mut Answers);
+
+    // The input ends here.
+    fn finish(&mut self, answers: &mut Answers);
+}
+
+// Runs a program until its input ends, or one of input and output fails, which is said on standard error.
+pub fn run(
+    input: &mut impl Read,
+    output: &impl Print,
+    errors: &impl Print,
+    program: &mut impl Program,
+) {
+    let mut answers = Answers::new();
+    let mut buffer = [0u8; 4096];
+    // A proved loop has to end, and nothing says that the input does: no run uses up so many reads.
+    for _ in 0..u64::MAX {
+        let goes_on = match input.read(&mut buffer) {
+            Ok(0) => ended(output, errors, program, &mut answers),
+            Ok(count) => take_all(output, errors, program, &buffer[..count], &mut answers),
+            Err(why) => unreadable(errors, program, why),
+        };
+        if !goes_on {
+            return;
+        }
+    }
+}
+
+// The bytes of one read. Answers whether all that was to be written out was.
+fn take_all(
+    output: &impl Print,
+    errors: &impl Print,
+    program: &mut impl Program,
+    bytes: &[u8],
+    answers: &mut Answers,
+) -> bool {
+    for byte in bytes {
+        program.take(*byte, answers);
+        if answers.text().len() > FULL && !write_out(output, errors, program, answers) {
+            return false;
+        }
+    }
+    write_out(output, errors, program, answers)
+}
+
+// No more input comes.
+fn ended(
+    output: &impl Print,
+    errors: &impl Print,
+    program: &mut impl Program,
+    answers: &mut Answers,
+) -> bool
+    ensures { result ≡ false }
+{
+    program.finish(answers);
+    write_out(output, errors, program, answers);
+    false
+}
+
+fn unreadable(errors: &impl Print, program: &impl Program, why: io::Error) -> bool
+    ensures { result ≡ false }
+{
+    fail_as(errors, program, b": standard input cannot be read", why);
+    false
+}
+
+// Writes the answers out, and makes room for others. Answers whether they were taken.
+fn write_out(
+    output: &impl Print,
+    errors: &impl Print,
+    program: &impl Program,
+    answers: &mut Answers,
+) -> bool
+    ensures { answers.new ≡ fresh_page 65536 }
+{
+    let written = output.write_all(answers.text());
+    answers.clear();
+    match written {
+        Ok(()) => true,
+        Err(why) => {
+            fail_as(errors, program, b": standard output cannot be written", why);
+            false
+        }
+    }
+}
+
+fn fail_as(errors: &impl Print, program: &impl Program, what: &[u8], why: io::Error) {
+    let mut line = Page::<64>::new();
+    line.put(program.name());
+    line.put(what);
+    fail(errors, line.text(), why);
 }

@@ -8,10 +8,10 @@ use mathlib.Core.Logic.{inl, inr}
 use mathlib.Core.Path.{◌≡◌, refl, sym, ap, subst, ◌∙◌}
 use borrow.Author.Tests.{eqb-true}
 use lib.Dec.{eqb}
-use lib.ListN.{length}
+use lib.ListN.{length, take, drop}
 use Rattle.frame.specs.Frame.{frame_of, data_bit}
-use Rattle.deframe.specs.declared.Unframed.{Unframed}
-use Rattle.deframe.specs.declared.Unframed.TheVariants.{Byte, BadFrame}
+use Rattle.std.specs.Prelude.{Result, Ok, fold}
+use Rattle.refusal.specs.declared.Refusal.{Refusal}
 use Rattle.deframe.specs.Unframe.{data_of, unframe_of, unframe_by, bit_of}
 use Rattle.deframe.specs.Read.{shifted}
 
@@ -38,21 +38,6 @@ of-bits (suc n) f e [] h = absurd (omega (arith, h))
 of-bits (suc n) f e (false ∷ l) h = of-bits n (λ l. f (false ∷ l)) ((and-eq-true_iff (all_bits n (λ l. f (false ∷ l))) (all_bits n (λ l. f (true ∷ l)))).0 e).0 l (omega (arith, h))
 of-bits (suc n) f e (true ∷ l) h = of-bits n (λ l. f (true ∷ l)) ((and-eq-true_iff (all_bits n (λ l. f (false ∷ l))) (all_bits n (λ l. f (true ∷ l)))).0 e).1 l (omega (arith, h))
 
--- ---- a byte is no refusal, and is told by the answer
-abbrev byte_in : Unframed → ℕ
-byte_in (Byte b) = b
-byte_in BadFrame = 256
-
-abbrev given : Unframed → Bool
-given (Byte b) = true
-given BadFrame = false
-
-byte_of : {a b : ℕ} → Byte a ≡ Byte b → a ≡ b
-byte_of e = ap byte_in e
-
-bad-frame : {b : ℕ} → BadFrame ≡ Byte b → ⊥
-bad-frame e = true≢false (sym (ap given e))
-
 -- ---- the byte of a frame
 abbrev back_to : ℕ → Bool
 back_to b = eqb (data_of (frame_of b)) b
@@ -64,9 +49,9 @@ all-bytes = refl
 pub data-of-frame : (b : ℕ) → b < 256 → data_of (frame_of b) ≡ b
 data-of-frame b h = eqb-true (data_of (frame_of b)) b (below 256 back_to all-bytes b h)
 
-pub frame-unframed : (b : ℕ) → b < 256 → unframe_of (frame_of b) ≡ Byte b
+pub frame-unframed : (b : ℕ) → b < 256 → unframe_of (frame_of b) ≡ Ok b
 unfolding unframe_of frame_of
-frame-unframed b h = ap Byte (data-of-frame b h)
+frame-unframed b h = ap Ok (data-of-frame b h)
 
 -- ---- the frame of a byte
 abbrev same : Bool → Bool → Bool
@@ -105,20 +90,31 @@ all-ten : all_bits 10 frames_back ≡ true
 unfolding data_of frame_of
 all-ten = refl
 
-pub unframed-frame : (bits : List Bool) → length bits ≡ 10 → (b : ℕ) → unframe_of bits ≡ Byte b → frame_of b ≡ bits
+pub unframed-frame : (bits : List Bool) → length bits ≡ 10 → (b : ℕ) → unframe_of bits ≡ Ok b → frame_of b ≡ bits
 unfolding unframe_of
 unframed-frame bits ten b e = go (bit_of bits 0) (bit_of bits 9) (of-bits 10 frames_back all-ten bits ten) e
   where
-    go : (start stop : Bool) → fits start stop bits ≡ true → unframe_by start stop (data_of bits) ≡ Byte b → frame_of b ≡ bits
-    go true stop f e = absurd (bad-frame e)
-    go false false f e = absurd (bad-frame e)
-    go false true f e = ap frame_of (sym (byte_of e)) ∙ same_bits_lem (frame_of (data_of bits)) bits f
+    go : (start stop : Bool) → fits start stop bits ≡ true → unframe_by start stop (data_of bits) ≡ Ok b → frame_of b ≡ bits
+    go true stop f e = cc
+    go false false f e = cc
+    go false true f e = (let same_byte : b ≡ data_of bits = cc in ap frame_of same_byte) ∙ same_bits_lem (frame_of (data_of bits)) bits f
 
 -- both, of an answer
-pub both_ways : (bits : List Bool) → length bits ≡ 10 → (r : Unframed) → r ≡ unframe_of bits
-    → (r ≡ unframe_of bits) × (((b : ℕ) → b < 256 → bits ≡ frame_of b → r ≡ Byte b) × ((b : ℕ) → r ≡ Byte b → frame_of b ≡ bits))
+pub both_ways : (bits : List Bool) → length bits ≡ 10 → (r : Result ℕ Refusal) → r ≡ unframe_of bits
+    → (r ≡ unframe_of bits) × (((b : ℕ) → b < 256 → bits ≡ frame_of b → r ≡ Ok b) × ((b : ℕ) → r ≡ Ok b → frame_of b ≡ bits))
 both_ways bits ten r e =
     (e, (λ b h f. e ∙ ap unframe_of f ∙ frame-unframed b h, λ b f. unframed-frame bits ten b (sym e ∙ f)))
+
+-- ---- the data bits of ten, shifted in one after another
+abbrev shifts_in : List Bool → Bool
+shifts_in bits = eqb (fold shifted 0 (take 8 (drop 1 bits))) (data_of bits)
+
+all-shift-in : all_bits 10 shifts_in ≡ true
+unfolding data_of
+all-shift-in = refl
+
+pub data-shifted-in : (bits : List Bool) → length bits ≡ 10 → fold shifted 0 (take 8 (drop 1 bits)) ≡ data_of bits
+data-shifted-in bits ten = eqb-true _ (data_of bits) (of-bits 10 shifts_in all-shift-in bits ten)
 
 -- ---- the data bits, taken in one after another
 abbrev taken : (acc : ℕ) → List Bool → ℕ

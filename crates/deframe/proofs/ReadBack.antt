@@ -11,43 +11,38 @@ use denote.Ref.{MutBor, at_last}
 use lib.Dec.{eqb}
 use lib.ListN.{length, take, drop, replicate, length-map}
 use Rattle.frame.specs.Frame.{frame_of, framed}
-use Rattle.deframe.specs.declared.Unframed.{Unframed}
-use Rattle.deframe.specs.declared.Unframed.TheVariants as unframed
+use Rattle.std.specs.Prelude.{Option, Some, Result, Ok}
+use Rattle.refusal.specs.declared.Refusal.{Refusal}
+use Rattle.refusal.specs.Refusal.{answer_number}
 use Rattle.deframe.specs.declared.Deframer.{Deframer}
 use Rattle.deframe.specs.declared.Deframer.TheVariants.{Idle, Frame, Skipping}
-use Rattle.deframe.specs.declared.Pushed.{Pushed}
-use Rattle.deframe.specs.declared.Pushed.TheVariants.{More, Byte}
 use Rattle.deframe.specs.declared.Reading.{Reading}
-use Rattle.deframe.specs.Unframe.{unframe_of, unframed_number}
-use Rattle.deframe.specs.Read.{Read, frame_step, step_of, read_of}
+use Rattle.deframe.specs.Unframe.{unframe_of}
+use Rattle.deframe.specs.Read.{Read, only_to, frame_step, step_of, read_of}
 use Rattle.deframe.specs.Calls.{AllBytes, none, more, Lent, run_of}
 use Rattle.deframe.proofs.Parts.{taken-all}
 use Rattle.deframe.proofs.unframe.Reads as unframe
-use Rattle.deframe.proofs.Unframed.number.Reads as number
 use Rattle.deframe.proofs.is_mark.Reads as is-mark
 use Rattle.deframe.proofs.Deframer.new.Reads as new
 use Rattle.deframe.proofs.Deframer.push_bit.Reads as push-bit
 use Rattle.deframe.proofs.Deframer.read.Reads as read
 
 -- ---- a single frame
-module _ (bits : List Bool) (r : Unframed) (d : unframe.Learnt tt (bits, tt) r (bits, tt)) where
+module _ (bits : List Bool) (r : Result ℕ Refusal) (d : unframe.Learnt tt (bits, tt) r (bits, tt)) where
   pub is-the-inverse : r ≡ unframe_of bits
   is-the-inverse = d.0
 
-  pub frame-gives-byte : (b : ℕ) → b < 256 → bits ≡ frame_of b → r ≡ unframed.Byte b
+  pub frame-gives-byte : (b : ℕ) → b < 256 → bits ≡ frame_of b → r ≡ Ok b
   frame-gives-byte = d.1.0
 
-  pub byte-gives-frame : (b : ℕ) → r ≡ unframed.Byte b → frame_of b ≡ bits
+  pub byte-gives-frame : (b : ℕ) → r ≡ Ok b → frame_of b ≡ bits
   byte-gives-frame = d.1.1
 
-pub number_is : (u : Unframed) (n : ℕ) → number.Learnt tt (u, tt) n (u, tt) → n ≡ unframed_number u
-number_is u n d = d
-
-pub bad-start : (bits : List Bool) → unframed_number (unframe_of (true ∷ bits)) ≡ 11
+pub bad-start : (bits : List Bool) → answer_number (unframe_of (true ∷ bits)) ≡ 11
 unfolding unframe_of
 bad-start bits = refl
 
-pub bad-stop : (a b c d e f g h : Bool) → unframed_number (unframe_of (false ∷ a ∷ b ∷ c ∷ d ∷ e ∷ f ∷ g ∷ h ∷ false ∷ [])) ≡ 11
+pub bad-stop : (a b c d e f g h : Bool) → answer_number (unframe_of (false ∷ a ∷ b ∷ c ∷ d ∷ e ∷ f ∷ g ∷ h ∷ false ∷ [])) ≡ 11
 unfolding unframe_of
 bad-stop a b c d e f g h = refl
 
@@ -58,8 +53,13 @@ mark-is bit m d = d
 pub begins-idle : (p : Deframer) → new.Learnt tt tt p tt → p ≡ Idle
 begins-idle p d = d
 
-pub one_bit_lem : (p : Deframer) (m : Bool) (r : Pushed) → push-bit.Learnt tt (p, (m, tt)) r (p, (m, tt)) → r ≡ step_of p m
-one_bit_lem p m r d = d
+module _ (κs : Lfts 1) (p : MutBor Deframer) (after : Deframer) (m : Bool) (r : Option ℕ)
+    (d : push-bit.Learnt κs (p, (m, tt)) r (at_last p after, (m, tt))) where
+  pub one_bit_place : after ≡ (step_of p.now m).place
+  one_bit_place = d.0
+
+  pub one_bit_byte : r ≡ (step_of p.now m).byte
+  one_bit_byte = d.1
 
 abbrev marks : List ℕ → List Bool
 marks bits = map (λ bit. not (eqb bit 0)) bits
@@ -135,11 +135,11 @@ module _ (κs : Lfts 2) (p : Deframer) (bits : Bor (List ℕ)) (out : MutBor (Li
     two-joined room l = d.1.1.1 (record { bits = xs; room = m } ∷ record { bits = ys; room = n } ∷ []) room l
 
 -- ---- at its edges
-pub nine-read : (acc : ℕ) → (step_of (Frame 9 acc) true ≡ Byte acc) × (step_of (Frame 9 acc) false ≡ More Skipping)
+pub nine-read : (acc : ℕ) → (step_of (Frame 9 acc) true ≡ record { place = Idle; byte = Some acc }) × (step_of (Frame 9 acc) false ≡ only_to Skipping)
 unfolding frame_step
 nine-read acc = (refl, refl)
 
-pub ten-read : (acc : ℕ) → (step_of (Frame 10 acc) true ≡ More Idle) × (step_of (Frame 10 acc) false ≡ More (Frame 1 0))
+pub ten-read : (acc : ℕ) → (step_of (Frame 10 acc) true ≡ only_to Idle) × (step_of (Frame 10 acc) false ≡ only_to (Frame 1 0))
 unfolding frame_step
 ten-read acc = (refl, refl)
 

@@ -1,5 +1,4 @@
 -- Definitions that the contracts cite.
 pub mod Unframe
 pub mod Read
-pub mod Progress
 pub mod Calls

@@ -1,7 +1,7 @@
 -- 02, E7: "ten bits give back the byte"; "a single frame with a bad start or stop bit gives 11 and no byte".
-use Rattle.std.specs.Prelude.{ℕ, ◌+◌, Bool, true, false, List, get_or}
-use Rattle.deframe.specs.declared.Unframed.{Unframed}
-use Rattle.deframe.specs.declared.Unframed.TheVariants.{Byte, BadFrame}
+use Rattle.std.specs.Prelude.{ℕ, ◌+◌, Bool, true, false, List, get_or, Result, Ok, Err}
+use Rattle.refusal.specs.declared.Refusal.{Refusal}
+use Rattle.refusal.specs.declared.Refusal.TheVariants.{BadFrame}
 
 abbrev pub weight_of : Bool → ℕ → ℕ
 weight_of true value = value
@@ -24,15 +24,10 @@ data_of bits =
     + weight_of (bit_of bits 8) 128)
 
 -- by the start bit, which is 0, and the stop bit, which is 1
-abbrev pub unframe_by : (start stop : Bool) → ℕ → Unframed
-unframe_by true stop b = BadFrame
-unframe_by false false b = BadFrame
-unframe_by false true b = Byte b
+abbrev pub unframe_by : (start stop : Bool) → ℕ → Result ℕ Refusal
+unframe_by true stop b = Err BadFrame
+unframe_by false false b = Err BadFrame
+unframe_by false true b = Ok b
 
-unfoldable pub unframe_of : List Bool → Unframed
+unfoldable pub unframe_of : List Bool → Result ℕ Refusal
 unframe_of bits = unframe_by (bit_of bits 0) (bit_of bits 9) (data_of bits)
-
--- 02's number, 0 for none
-abbrev pub unframed_number : Unframed → ℕ
-unframed_number (Byte b) = 0
-unframed_number BadFrame = 11

@@ -1,8 +1,8 @@
 // Asynchronous framing, and the payloads that the stages send. A mark, 01's bit 1, is `true`.
 #![tactic(auto)]
 
-ghost use Rattle.std.specs.Prelude.{◌≡◌, ltb, length};
-ghost use Rattle.frame.specs.Frame.{frame_of, framed, bit_at};
+ghost use Rattle.std.specs.Prelude.{◌≡◌, ◌<◌, ltb, length};
+ghost use Rattle.frame.specs.Frame.{data_bit, frame_of, framed, bit_at};
 
 // A caller's proof sees through a constant: `payload_bit(&CI_PAYLOAD, i)` is bit i of `ci_payload`, and so for the others.
 pub const CI_PAYLOAD: [u8; 6] = *b"CICICI";
@@ -13,20 +13,29 @@ pub const CJ_PAYLOAD: [u8; 6] = *b"CJCJCJ";
 
 pub const TRAINING_PAYLOAD: [u8; 30] = [0x55; 30];
 
+// Bit `index` of a byte, counted from 0, the lowest.
+fn data_bit(b: u8, index: u32) -> bool
+    requires { index < 8 }
+    ensures { result ≡ data_bit b index }
+{
+    (b >> index) % 2 == 1
+}
+
 // A byte's frame: a space to start, the data bits lowest first, a mark to stop.
+#[tactic(auto, unfolding(crate::specs::Frame::frame_of))]
 pub fn frame_byte(b: u8) -> [bool; 10]
     ensures { result ≡ frame_of b }
 {
     [
         false,
-        b % 2 == 1,
-        (b >> 1) % 2 == 1,
-        (b >> 2) % 2 == 1,
-        (b >> 3) % 2 == 1,
-        (b >> 4) % 2 == 1,
-        (b >> 5) % 2 == 1,
-        (b >> 6) % 2 == 1,
-        (b >> 7) % 2 == 1,
+        data_bit(b, 0),
+        data_bit(b, 1),
+        data_bit(b, 2),
+        data_bit(b, 3),
+        data_bit(b, 4),
+        data_bit(b, 5),
+        data_bit(b, 6),
+        data_bit(b, 7),
         true,
     ]
 }
@@ -42,10 +51,8 @@ pub fn has_bit(payload: &[u8], index: usize) -> bool
 pub fn payload_bit(payload: &[u8], index: usize) -> bool
     ensures { result ≡ bit_at payload.now index }
 {
-    let at = index / 10;
-    if payload.len() <= at {
-        return true;
+    match payload.get(index / 10) {
+        Some(byte) => frame_byte(*byte)[index % 10],
+        None => true,
     }
-    let bits = frame_byte(payload[at]);
-    bits[index % 10]
 }

@@ -24,9 +24,10 @@ use Rattle.cue.specs.Cue.{cued, sample_cued, key_cued}
 use Rattle.deframe.specs.declared.Deframer.{Deframer}
 use Rattle.deframe.specs.declared.Deframer.TheVariants.{Idle}
 use Rattle.deframe.specs.declared.Reading.{Reading}
-use Rattle.deframe.specs.declared.Unframed.{Unframed}
+use Rattle.refusal.specs.declared.Refusal.{Refusal}
+use Rattle.refusal.specs.Refusal.{answer_number}
 use Rattle.deframe.specs.Read.{Read, marks_of, read_of, stopped}
-use Rattle.deframe.specs.Unframe.{unframe_of, unframed_number}
+use Rattle.deframe.specs.Unframe.{unframe_of}
 use Rattle.report.specs.declared.Report.{Report}
 use Rattle.report.specs.Report.{report_line}
 use Rattle.panel.specs.declared.shown.Second.{Second}
@@ -85,8 +86,8 @@ abbrev pub bits_shown : Set → Reading → Shown
 bits_shown s a = shown_of s 0 reply.None (second.Bits a.taken a.given) true
 
 -- a frame leaves the set; a string of another length than ten prints nothing
-abbrev pub frame_shown : Bool → Set → Unframed → Shown
-frame_shown true s a = shown_of s (unframed_number a) reply.None (second.Frame a) true
+abbrev pub frame_shown : Bool → Set → Result ℕ Refusal → Shown
+frame_shown true s a = shown_of s (answer_number a) reply.None (second.Frame a) true
 frame_shown false s a = nothing_shown s
 
 -- 02, E8: the key that the last fill answered leaves the set

@@ -14,25 +14,7 @@ pub fn after(call: Call, place: Deframer, string: &[u8], out: &mut [u8]) -> Read
     match call {
         Call::Bits(room) => read(place, room, string, out),
         Call::Rate(_) => still(Deframer::new()),
-        Call::Typed {
-            byte: _,
-            carrier: _,
-            outbox: _,
-        } => still(place),
-        Call::Lapse { ns: _, carrier: _ } => still(place),
-        Call::Fill(_) => still(place),
-        Call::ForcedData => still(place),
-        Call::Cue(_) => still(place),
-        Call::Kept(_) => still(place),
-        Call::String {
-            carrier: _,
-            outbox: _,
-            codes: _,
-        } => still(place),
-        Call::Frame => still(place),
-        Call::Key => still(place),
-        Call::Queued(_) => still(place),
-        Call::Other => still(place),
+        _ => still(place),
     }
 }
 
@@ -40,11 +22,10 @@ pub fn after(call: Call, place: Deframer, string: &[u8], out: &mut [u8]) -> Read
 fn read(place: Deframer, room: usize, string: &[u8], out: &mut [u8]) -> Reading
     ensures { result ≡ answer_of (either (leb room (length out.old)) (read_of room place (marks_of string.now)) (stopped place)) }
 {
-    let from: usize = 0;
     if room > out.len() {
         return still(place);
     }
-    place.read(string, &mut out[from..room])
+    place.read(string, &mut out[..room])
 }
 
 fn still(place: Deframer) -> Reading

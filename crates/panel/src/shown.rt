@@ -1,6 +1,6 @@
 // A line's call on the set, with what is printed of its answer.
 ghost use Rattle.std.specs.Prelude.{◌≡◌, ◌*◌, ◌≤◌, true, ◌&&◌, leb, eqb, length};
-ghost use Rattle.text.specs.Text.{page_of, add_of};
+ghost use Rattle.text.specs.Page.{add_of};
 ghost use Rattle.set.specs.Set.{made, typed, lapsed, forced, fill, byte_queued};
 ghost use Rattle.refusal.specs.Refusal.{number_of};
 ghost use Rattle.reply.specs.declared.Reply.TheVariants as reply;
@@ -12,7 +12,8 @@ ghost use Rattle.panel.specs.Wall.{shown_of, nothing_shown, made_shown, typed_sh
 
 use crate::bits;
 use console::lines::Call;
-use deframe::{Reading, Unframed};
+use console::stream::Answers;
+use deframe::Reading;
 use keys::Key;
 use refusal::Refusal;
 use reply::Reply;
@@ -35,7 +36,7 @@ pub enum Second {
     // how many bits were taken, and how many bytes of the outbox filled
     Bits { taken: usize, given: usize },
     // a frame's byte, or none
-    Frame(Unframed),
+    Frame(Result<u8, Refusal>),
     // the key that is kept
     Lit,
 }
@@ -85,15 +86,13 @@ pub fn after(
     }
 }
 
-// Writes the line, if there is one.
-pub fn put_line(out: &mut [u8], at: usize, shown: Shown) -> usize
-    ensures { page_of out.new result ≡ add_of (page_of out.old at) (line_of shown) }
+// Puts the line on the page, if there is one.
+pub fn put_line(answers: &mut Answers, shown: Shown)
+    ensures { answers.new ≡ add_of answers.old (line_of shown) }
 {
-    let report = shown.report;
     if shown.prints {
-        return report::put_report(out, at, report);
+        report::put_report(answers, shown.report);
     }
-    at
 }
 
 fn made(rate: u32) -> Shown
@@ -108,11 +107,10 @@ fn made(rate: u32) -> Shown
 fn typed(set: Set, byte: u8, carrier: bool, n: usize, outbox: &mut [u8]) -> Shown
     ensures { result ≡ if_room (leb n (length outbox.old)) set (typed_shown set (typed set byte carrier n)) }
 {
-    let from: usize = 0;
     if n > outbox.len() {
         return nothing(set);
     }
-    feed(set, byte, carrier, &mut outbox[from..n])
+    feed(set, byte, carrier, &mut outbox[..n])
 }
 
 fn feed(set: Set, byte: u8, carrier: bool, outbox: &mut [u8]) -> Shown
@@ -146,17 +144,17 @@ fn forced(set: Set) -> Shown
 fn filled(set: Set, n: usize, samples: &mut [f32]) -> Shown
     ensures { result ≡ if_room (leb n (length samples.old)) set (filled_shown set n (fill set n)) }
 {
-    let from: usize = 0;
     if n > samples.len() {
         return nothing(set);
     }
-    fill(set, &mut samples[from..n])
+    fill(set, &mut samples[..n])
 }
 
 fn fill(set: Set, samples: &mut [f32]) -> Shown
     ensures { result ≡ filled_shown set (length samples.old) (fill set (length samples.old)) }
 {
-    blank(samples);
+    // A value that no call writes shows which samples a refused fill leaves alone.
+    samples.fill(1.23);
     let n = samples.len();
     match set.process_out(samples) {
         Ok(filled) => {
@@ -167,15 +165,6 @@ fn fill(set: Set, samples: &mut [f32]) -> Shown
             let key = None;
             declined(set, refusal, Second::Filled { n, key })
         }
-    }
-}
-
-// A value that no call writes shows which samples a refused fill leaves alone.
-fn blank(samples: &mut [f32]) {
-    let mut i: usize = 0;
-    while i < samples.len() {
-        samples[i] = 1.23;
-        i += 1;
     }
 }
 
@@ -209,20 +198,13 @@ fn typed_all(
 ) -> Shown
     ensures { result ≡ if_room (leb n (length outbox.old) && leb m (length codes.old)) set (string_shown set (length string.now) (typed_all set string.now carrier n m)) }
 {
-    let from: usize = 0;
     if n > outbox.len() {
         return nothing(set);
     }
     if m > codes.len() {
         return nothing(set);
     }
-    feed_all(
-        set,
-        string,
-        carrier,
-        &mut outbox[from..n],
-        &mut codes[from..m],
-    )
+    feed_all(set, string, carrier, &mut outbox[..n], &mut codes[..m])
 }
 
 // Three places of `codes` a byte. A string that was accepted has at most 256.
@@ -262,12 +244,12 @@ fn framed(set: Set, string: &[u8]) -> Shown
     nothing(set)
 }
 
-fn unframed(set: Set, answer: Unframed) -> Shown
+fn unframed(set: Set, answer: Result<u8, Refusal>) -> Shown
     ensures { result ≡ frame_shown true set answer }
 {
     show(
         set,
-        answer.number(),
+        refusal::answer_number(&answer),
         Reply::None,
         Second::Frame(answer),
         true,

@@ -1,11 +1,13 @@
 // The line that `wall` prints for a call.
 #![tactic(auto)]
 
-ghost use Rattle.std.specs.Prelude.{◌≡◌, ◌≤◌, length, take};
+ghost use Rattle.std.specs.Prelude.{◌≡◌};
 ghost use Rattle.ascii.specs.Ascii.{ascii};
-ghost use Rattle.text.specs.Text.{page_of, add_of};
+ghost use Rattle.text.specs.Page.{add_of};
 ghost use Rattle.text.specs.Digits.{decimal_of};
 ghost use Rattle.report.specs.Report.{mode_text, report_line};
+
+use text::Page;
 
 // What is shown after a call, in 01's order and numbers.
 #[derive(Clone, Copy)]
@@ -20,45 +22,40 @@ pub struct Report {
 }
 
 // The whole line, or nothing where it does not fit.
-pub fn put_report(out: &mut [u8], at: usize, report: Report) -> usize
-    ensures { page_of out.new result ≡ add_of (page_of out.old at) (report_line report) }
+pub fn put_report<const N: usize>(page: &mut Page<N>, report: Report)
+    ensures { page.new ≡ add_of page.old (report_line report) }
 {
-    // six numbers of up to twenty digits, a letter, six commas and a line feed
-    let mut line = [0u8; 128];
-    let end = compose(&mut line, report);
-    text::put(out, at, &line[..end])
+    let line = compose(report);
+    page.put(line.text());
 }
 
-// The line at the front of a buffer.
-fn compose(line: &mut [u8], report: Report) -> usize
-    requires { 128 ≤ length line.old }
-    ensures upper_bound { result ≤ length line.new }
-    ensures line_after { take result line.new ≡ report_line report }
+// The line alone: six numbers of up to twenty digits, a letter, six commas and a line feed have room on it.
+fn compose(report: Report) -> Page<128>
+    ensures { result.text ≡ report_line report }
 {
-    let mut k = put_number(line, 0, report.refusal as u64);
-    k = put_mode(line, k, report.in_command_mode);
-    k = put_number(line, k, report.state as u64);
-    k = put_number(line, k, report.stage as u64);
-    k = put_number(line, k, report.m as u64);
-    k = put_number(line, k, report.first as u64);
-    k = text::put_decimal(line, k, report.second as u64);
-    text::put_byte(line, k, b'\n')
+    let mut line = Page::new();
+    put_number(&mut line, report.refusal as u64);
+    put_mode(&mut line, report.in_command_mode);
+    put_number(&mut line, report.state as u64);
+    put_number(&mut line, report.stage as u64);
+    put_number(&mut line, report.m as u64);
+    put_number(&mut line, report.first as u64);
+    line.put_decimal(report.second as u64);
+    line.put_byte(b'\n');
+    line
 }
 
-pub fn put_number(out: &mut [u8], at: usize, number: u64) -> usize
-    ensures { page_of out.new result ≡ add_of (add_of (page_of out.old at) (decimal_of number)) (ascii ",") }
+pub fn put_number<const N: usize>(page: &mut Page<N>, number: u64)
+    ensures { page.new ≡ add_of (add_of page.old (decimal_of number)) (ascii ",") }
 {
-    let k = text::put_decimal(out, at, number);
-    text::put_byte(out, k, b',')
+    page.put_decimal(number);
+    page.put_byte(b',');
 }
 
-pub fn put_mode(out: &mut [u8], at: usize, in_command_mode: bool) -> usize
-    ensures { page_of out.new result ≡ add_of (add_of (page_of out.old at) (mode_text in_command_mode)) (ascii ",") }
+#[tactic(auto, unfolding(crate::specs::Report::mode_text))]
+pub fn put_mode<const N: usize>(page: &mut Page<N>, in_command_mode: bool)
+    ensures { page.new ≡ add_of (add_of page.old (mode_text in_command_mode)) (ascii ",") }
 {
-    if in_command_mode {
-        let k = text::put_byte(out, at, b'C');
-        return text::put_byte(out, k, b',');
-    }
-    let k = text::put_byte(out, at, b'D');
-    text::put_byte(out, k, b',')
+    page.put_byte(if in_command_mode { b'C' } else { b'D' });
+    page.put_byte(b',');
 }

@@ -1,4 +1,5 @@
 pub mod Time
+pub mod Rate
 pub mod Dialling
 pub mod Ringback
 pub mod Ansam

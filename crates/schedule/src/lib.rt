@@ -3,12 +3,16 @@
 #![tactic(auto)]
 
 ghost use Rattle.std.specs.Prelude.{◌≡◌, ◌≤◌};
-ghost use Rattle.schedule.specs.Time.{min_rate, max_rate, time_at, samples_in, saturating_inc};
+ghost use Rattle.schedule.specs.Time.{time_at, samples_in, saturating_inc};
 ghost use Rattle.schedule.specs.Dialling.{digit_at, in_tone};
 ghost use Rattle.schedule.specs.Ringback.{ring_at, ring_time, ring_tone};
 ghost use Rattle.schedule.specs.Ansam.{sign_at};
 ghost use Rattle.schedule.specs.Symbols.{symbol_step, symbol_ends, next_phase};
 ghost use Rattle.schedule.specs.Length.{max_digits, dialling_length, dialling_samples};
+
+pub use rate::Rate;
+
+mod rate;
 
 // The rates of a set.
 pub const MIN_RATE: u32 = 8_000;
@@ -84,15 +88,15 @@ pub fn dialling_phase(t: f64) -> DiallingPhase
 }
 
 // Where the digits end: the place by whole numbers, or the sample after it. 0.2 is no f64, so the digit there decides.
-fn dialling_end(digits: u64, rate: u32) -> u64
-    requires { (min_rate ≤ rate) × (rate ≤ max_rate) × (digits ≤ max_digits) }
-    ensures { result ≡ dialling_length rate digits }
+fn dialling_end(digits: u64, rate: Rate) -> u64
+    requires { digits ≤ max_digits }
+    ensures { result ≡ dialling_length rate.hertz digits }
 {
     if digits == 0 {
         return 1;
     }
-    let place = digits * rate as u64 / 5;
-    let phase = dialling_phase(seconds(place as u32, rate));
+    let place = digits * rate.hertz as u64 / 5;
+    let phase = dialling_phase(seconds(place as u32, rate.hertz));
     if phase.digit < digits {
         return place + 1;
     }
@@ -103,10 +107,10 @@ fn dialling_end(digits: u64, rate: u32) -> u64
 pub fn dialling_samples(digits: u64, rate: u32) -> u64
     ensures { result ≡ dialling_samples rate digits }
 {
-    if ((rate >= MIN_RATE) & (rate <= MAX_RATE)) & (digits <= MAX_DIGITS) {
-        return dialling_end(digits, rate);
+    match Rate::new(rate) {
+        Some(rate) if digits <= MAX_DIGITS => dialling_end(digits, rate),
+        _ => 0,
     }
-    0
 }
 
 // Whether the cadence is in tone, time seconds into its ring.

@@ -8,7 +8,7 @@ use mathlib.Core.List.{List, [], ◌∷◌}
 use lib.ListN.{length, drop, get_or, drop_of_length-le}
 use lib.Seq.{drop-cons}
 use Rattle.ascii.specs.Ascii.{ascii}
-use Rattle.text.specs.Text.{Page, add_of}
+use Rattle.text.specs.Page.{Page, add_of}
 use Rattle.text.specs.Digits.{decimal_of, last_digits}
 use Rattle.report.specs.Report.{mode_text}
 use Rattle.at.specs.Processor.{command_mode}

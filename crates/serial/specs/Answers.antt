@@ -2,7 +2,7 @@
 -- bytes sent in hexadecimal or `-`; nothing for another line.
 use Rattle.std.specs.Prelude.{ℕ, min, List, [], ◌∷◌, length, take, replicate, Result}
 use Rattle.ascii.specs.Ascii.{ascii}
-use Rattle.text.specs.Text.{Page, add_of}
+use Rattle.text.specs.Page.{Page, add_of}
 use Rattle.text.specs.Digits.{decimal_of, last_digits}
 use Rattle.report.specs.Report.{mode_text}
 use Rattle.at.specs.Processor.{command_mode}

@@ -1,42 +1,39 @@
-// The line that `serial` prints, written on a page that is a buffer.
-ghost use Rattle.std.specs.Prelude.{◌≡◌, take};
-ghost use Rattle.text.specs.Text.{page_of};
+// The line that `serial` prints, written on a page.
+ghost use Rattle.std.specs.Prelude.{◌≡◌};
 ghost use Rattle.serial.specs.Answers.{in_hex, sent_on, told};
 
+use console::stream::Answers;
 use uart::Chip;
 
 // Refusal, value, mode, state, stage, m, and the bytes sent.
-pub fn put_told(out: &mut [u8], at: usize, chip: Chip, refusal: u8, value: u8, sent: &[u8]) -> usize
-    ensures { page_of out.new result ≡ told (page_of out.old at) chip refusal value sent.now }
+pub fn put_told(answers: &mut Answers, chip: Chip, refusal: u8, value: u8, sent: &[u8])
+    ensures { answers.new ≡ told answers.old chip refusal value sent.now }
 {
     let state = chip.state();
-    let mut k = report::put_number(out, at, refusal as u64);
-    k = report::put_number(out, k, value as u64);
-    k = report::put_mode(out, k, chip.in_command_mode());
-    k = report::put_number(out, k, state.number() as u64);
-    k = report::put_number(out, k, chip.stage() as u64);
-    k = report::put_number(out, k, chip.m() as u64);
-    k = put_sent(out, k, sent);
-    text::put_byte(out, k, b'\n')
+    report::put_number(answers, refusal as u64);
+    report::put_number(answers, value as u64);
+    report::put_mode(answers, chip.in_command_mode());
+    report::put_number(answers, state.number() as u64);
+    report::put_number(answers, chip.stage() as u64);
+    report::put_number(answers, chip.m() as u64);
+    put_sent(answers, sent);
+    answers.put_byte(b'\n');
 }
 
-fn put_sent(out: &mut [u8], at: usize, bytes: &[u8]) -> usize
-    ensures { page_of out.new result ≡ sent_on (page_of out.old at) bytes.now }
+fn put_sent(answers: &mut Answers, bytes: &[u8])
+    ensures { answers.new ≡ sent_on answers.old bytes.now }
 {
-    if bytes.len() == 0 {
-        return text::put_byte(out, at, b'-');
+    if bytes.is_empty() {
+        answers.put_byte(b'-');
+    } else {
+        put_hex(answers, bytes);
     }
-    put_hex(out, at, bytes)
 }
 
-fn put_hex(out: &mut [u8], at: usize, bytes: &[u8]) -> usize
-    ensures { page_of out.new result ≡ in_hex (page_of out.old at) bytes.now }
+fn put_hex(answers: &mut Answers, bytes: &[u8])
+    ensures { answers.new ≡ in_hex answers.old bytes.now }
 {
-    let mut k = at;
-    let mut i: usize = 0;
-    while i < bytes.len() {
-        k = text::put_hex(out, k, bytes[i] as u64, 2);
-        i += 1;
+    for byte in bytes {
+        answers.put_hex(*byte as u64, 2);
     }
-    k
 }

@@ -90,7 +90,7 @@ pub record Spelt (was : List ℕ) (at number base count : ℕ) (out : List ℕ) 
   pub before : take at out ≡ take at was
   pub after : last_digits base i rest ++ drop (at + i) out ≡ last_digits base count number ++ drop (at + count) was
 
-drop-stored : (out : List ℕ) (place digit : ℕ) → place < length out → drop place (set out place digit) ≡ digit ∷ drop (suc place) out
+pub drop-stored : (out : List ℕ) (place digit : ℕ) → place < length out → drop place (set out place digit) ≡ digit ∷ drop (suc place) out
 drop-stored out place digit h =
     rw (set_split out place digit) (drop_at (take place out) _ place (length-take-le place out (omega arith)))
 

@@ -1,109 +1,155 @@
-// The text of an answer, composed in a buffer: each function writes at a place and answers the place
-// after it. Where the whole does not fit, nothing is written and the place stays.
+// A page: texts one behind the other in fixed memory. Each method adds the whole of a text, or nothing
+// where it does not fit.
 #![tactic(auto)]
 
-ghost use Rattle.std.specs.Prelude.{◌≡◌, ◌∷◌, [], ◌++◌, ◌+◌, ◌≤◌, ◌<◌, leb, length, take, drop};
-ghost use Rattle.text.specs.Text.{page_of, add_of};
+ghost use Rattle.std.specs.Prelude.{◌≡◌, ◌∷◌, [], ◌++◌, ◌+◌, ◌-◌, ◌≤◌, ◌<◌, leb, length, take, drop};
+ghost use Rattle.text.specs.Page.{fresh_page, add_of};
 ghost use Rattle.text.specs.Digits.{glyph_of, last_digits, places_of, decimal_of};
 ghost use Rattle.text.specs.Seconds.{seconds_of};
 
-// Whether a text of `count` bytes fits at a place of a buffer.
-pub fn has_room(room: usize, at: usize, count: usize) -> bool
-    ensures { result ≡ leb (at + count) room }
-{
-    if room < at {
-        return false;
-    }
-    if room - at < count {
-        return false;
-    }
-    true
+use std::fmt;
+use std::marker::Model;
+
+mod buffer;
+
+pub use buffer::{has_room, put, put_byte, put_decimal, put_hex, put_seconds};
+
+// The texts are at the front.
+#[derive(Drop)]
+pub struct Page<const N: usize> {
+    bytes: [u8; N],
+    end: usize,
 }
 
-pub fn put(out: &mut [u8], at: usize, text: &[u8]) -> usize
-    ensures { page_of out.new result ≡ add_of (page_of out.old at) text.now }
-{
-    if has_room(out.len(), at, text.len()) {
-        let mut i = 0;
-        while i < text.len() {
-            let place = at + i;
-            out[place] = text[i];
-            i += 1;
+impl<const N: usize> Model for Page<N> {
+    ghost use Rattle.std.specs.Prelude.{◌≤◌, take};
+    ghost use Rattle.text.specs.Page.{Page as OnPage};
+
+    ghost Value = { OnPage };
+
+    ghost view = { λ p. record { room = N; text = take p.end p.bytes } };
+
+    ghost invariant = { λ p. p.end ≤ N };
+}
+
+impl<const N: usize> Page<N> {
+    pub fn new() -> Self
+        ensures { result ≡ fresh_page N }
+    {
+        Page {
+            bytes: [0; N],
+            end: 0,
         }
-        return at + i;
     }
-    at
-}
 
-pub fn put_byte(out: &mut [u8], at: usize, byte: u8) -> usize
-    ensures { page_of out.new result ≡ add_of (page_of out.old at) (byte ∷ []) }
-{
-    let text = [byte];
-    put(out, at, &text)
-}
-
-// The number's decimal digits, with no zeros in front.
-pub fn put_decimal(out: &mut [u8], at: usize, number: u64) -> usize
-    ensures { page_of out.new result ≡ add_of (page_of out.old at) (decimal_of number) }
-{
-    put_digits(out, at, number, 10, places(number))
-}
-
-// The number's last `count` hexadecimal digits, in upper case.
-pub fn put_hex(out: &mut [u8], at: usize, number: u64, count: usize) -> usize
-    ensures { page_of out.new result ≡ add_of (page_of out.old at) (last_digits 16 count number) }
-{
-    put_digits(out, at, number, 16, count)
-}
-
-// How long samples last at a rate, in seconds with four decimals, rounded to the nearest. At the
-// rate 0, nothing.
-pub fn put_seconds(out: &mut [u8], at: usize, samples: u32, rate: u32) -> usize
-    ensures { page_of out.new result ≡ add_of (page_of out.old at) (seconds_of samples rate) }
-{
-    if rate == 0 {
-        return at;
+    // What is on the page.
+    pub fn text(&self) -> &[u8]
+        ensures value { result.now ≡ self.now.text }
+        ensures in_bounds { length result.now ≤ N }
+        ensures room { self.now.room ≡ N }
+    {
+        &self.bytes[..self.end]
     }
-    let parts = (samples as u64 * 10000 + rate as u64 / 2) / rate as u64;
-    let whole = parts / 10000;
-    let count = places(whole);
-    if has_room(out.len(), at, count + 5) {
-        let point = put_digits(out, at, whole, 10, count);
-        let fraction = put_byte(out, point, b'.');
-        return put_digits(out, fraction, parts, 10, 4);
+
+    pub fn clear(&mut self)
+        ensures { self.new ≡ fresh_page N }
+    {
+        self.end = 0;
     }
-    at
+
+    // Whether so many bytes more fit.
+    pub fn has_room(&self, count: usize) -> bool
+        ensures { result ≡ leb (length self.now.text + count) self.now.room }
+    {
+        count <= N - self.end
+    }
+
+    pub fn put(&mut self, text: &[u8])
+        ensures { self.new ≡ add_of self.old text.now }
+    {
+        if text.len() <= N - self.end {
+            let end = self.end + text.len();
+            let bytes = &mut self.bytes[..];
+            bytes[self.end..end].copy_from_slice(text);
+            self.end = end;
+        }
+    }
+
+    pub fn put_byte(&mut self, byte: u8)
+        ensures { self.new ≡ add_of self.old (byte ∷ []) }
+    {
+        self.put(&[byte]);
+    }
+
+    // The number's decimal digits, with no zeros in front.
+    pub fn put_decimal(&mut self, number: u64)
+        ensures { self.new ≡ add_of self.old (decimal_of number) }
+    {
+        self.put_digits(number, 10, places(number));
+    }
+
+    // The number's last `count` hexadecimal digits, in upper case.
+    pub fn put_hex(&mut self, number: u64, count: usize)
+        ensures { self.new ≡ add_of self.old (last_digits 16 count number) }
+    {
+        self.put_digits(number, 16, count);
+    }
+
+    // How long samples last at a rate, in seconds with four decimals, rounded to the nearest. At the
+    // rate 0, nothing.
+    pub fn put_seconds(&mut self, samples: u32, rate: u32)
+        ensures { self.new ≡ add_of self.old (seconds_of samples rate) }
+    {
+        if rate == 0 {
+            return;
+        }
+        let parts = (samples as u64 * 10000 + rate as u64 / 2) / rate as u64;
+        let whole = parts / 10000;
+        if self.has_room(places(whole) + 5) {
+            self.put_decimal(whole);
+            self.put_byte(b'.');
+            self.put_digits(parts, 10, 4);
+        }
+    }
+
+    fn put_digits(&mut self, number: u64, base: u64, count: usize)
+        requires base_1 { 0 < base }
+        requires base_16 { base ≤ 16 }
+        ensures { self.new ≡ add_of self.old (last_digits base count number) }
+    {
+        if count <= N - self.end {
+            let end = self.end + count;
+            let bytes = &mut self.bytes[..];
+            spell(&mut bytes[self.end..end], number, base);
+            self.end = end;
+        }
+    }
 }
 
-fn put_digits(out: &mut [u8], at: usize, number: u64, base: u64, count: usize) -> usize
-    requires fact_1 { 0 < base }
-    requires fact_2 { base ≤ 16 }
-    ensures { page_of out.new result ≡ add_of (page_of out.old at) (last_digits base count number) }
-{
-    if has_room(out.len(), at, count) {
-        spell(out, at, number, base, count);
-        return at + count;
+// What does not fit is left out, so a `write!` of this page succeeds.
+impl<const N: usize> fmt::Write for Page<N> {
+    ghost write_str_gives = { λ p text q. q ≡ add_of p text };
+
+    fn write_str(&mut self, text: &str) -> fmt::Result {
+        self.put(text.as_bytes());
+        Ok(())
     }
-    at
 }
 
-// From the last digit to the first.
-fn spell(out: &mut [u8], at: usize, number: u64, base: u64, count: usize)
-    requires fact_1 { 0 < base }
-    requires fact_2 { base ≤ 16 }
-    requires fact_3 { at + count ≤ length out.old }
-    ensures { out.new ≡ take at out.old ++ last_digits base count number ++ drop (at + count) out.old }
+// The number's last digits, one for each place, from the last to the first.
+fn spell(out: &mut [u8], number: u64, base: u64)
+    requires base_1 { 0 < base }
+    requires base_16 { base ≤ 16 }
+    ensures { out.new ≡ last_digits base (length out.old) number }
 {
-    let mut i = count;
     let mut rest = number;
-    while i > 0 {
-        i -= 1;
-        let place = at + i;
-        out[place] = glyph(rest % base);
-        rest = rest / base;
+    for i in (0..out.len()).rev() {
+        out[i] = glyph(rest % base);
+        rest /= base;
     }
 }
 
+#[tactic(auto, unfolding(crate::specs::Digits::glyph_of, crate::specs::Digits::glyph_if))]
 fn glyph(digit: u64) -> u8
     requires { digit < 16 }
     ensures { result ≡ glyph_of digit }
@@ -118,11 +164,8 @@ fn glyph(digit: u64) -> u8
 fn places(number: u64) -> usize
     ensures { result ≡ places_of number }
 {
-    let mut count = 1;
-    let mut rest = number;
-    while rest >= 10 {
-        rest = rest / 10;
-        count += 1;
+    match number.checked_ilog10() {
+        None => 1,
+        Some(power) => power as usize + 1,
     }
-    count
 }

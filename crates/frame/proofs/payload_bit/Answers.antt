@@ -4,8 +4,10 @@ use mathlib.Core.Bool.{false}
 use Rattle.frame.proofs.Bits.{bit-within, bit_past}
 use Rattle.frame.proofs.payload_bit.Goals as goal
 
-pub returns-then-payload-at : goal.returns-then-payload-at
-returns-then-payload-at c = sym (bit_past _ _ c.if-payload-at.true)
+pub returns-in-Some : goal.returns-in-Some
+returns-in-Some c =
+    let at = c.in-Some.ensures.lookup.3 in
+    rw (c.frame_byte.ensures, at.1 0) (sym (bit-within _ _ false at.0))
 
-pub returns : goal.returns
-returns c = rw c.frame_byte-bits.ensures (sym (bit-within _ _ false c.if-payload-at.false))
+pub returns-in-None : goal.returns-in-None
+returns-in-None c = sym (bit_past _ _ c.in-None.ensures.lookup.3)

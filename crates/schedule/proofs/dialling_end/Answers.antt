@@ -6,8 +6,8 @@ use Rattle.schedule.proofs.dialling_end.Goals as goal
 use Rattle.schedule.proofs.dialling_end.Goals.{After-dialling_phase-phase, Start}
 
 -- no product is large
-small : (c : Start) → c.args.digits * c.args.rate ≤ 76 * 192000
-small c = mul-le-mul c.requires.2 c.requires.1
+small : (c : Start) → c.args.digits * c.args.rate.hertz ≤ 76 * 192000
+small c = mul-le-mul c.requires c.args.rate.fast
 
 -- the place is d * r / 5 rounded down
 rounded : (x : ℕ) → (5 * (x / 5) ≤ x) × (x < 5 * (x / 5) + 5)
@@ -17,7 +17,7 @@ some : (d : ℕ) → (d ≡ 0 → ⊥) → 0 < d
 some d h = omega arith
 
 -- the digit there
-digit : (c : After-dialling_phase-phase) → c.dialling_phase-phase.result.digit ≡ digit_after c.args.rate (c.args.digits * c.args.rate / 5)
+digit : (c : After-dialling_phase-phase) → c.dialling_phase-phase.result.digit ≡ digit_after c.args.rate.hertz (c.args.digits * c.args.rate.hertz / 5)
 digit c = c.dialling_phase-phase.ensures.0 ∙ ap digit_at c.seconds.ensures
 
 pub returns-then-digits-eq0 : goal.returns-then-digits-eq0
@@ -33,11 +33,11 @@ pub overflow_add-result : goal.overflow_add-result
 overflow_add-result c = omega (arith, small (goal.at.overflow_add-result c).Start)
 
 pub returns-then-phase-digits : goal.returns-then-phase-digits
-returns-then-phase-digits c = let near = rounded (c.args.digits * c.args.rate) in
-    sym (dialling-after _ c.requires.0 c.requires.1 _ c.requires.2 (some _ c.if-digits-eq0.false) _ near.0 near.1
+returns-then-phase-digits c = let near = rounded (c.args.digits * c.args.rate.hertz) in
+    sym (dialling-after _ c.args.rate.slow c.args.rate.fast _ c.requires (some _ c.if-digits-eq0.false) _ near.0 near.1
     (subst (λ (z : ℕ). z < c.args.digits) (digit (goal.at.returns-then-phase-digits c).After-dialling_phase-phase) c.if-phase-digits.true))
 
 pub returns : goal.returns
-returns c = let near = rounded (c.args.digits * c.args.rate) in
-    sym (dialling-there _ c.requires.0 c.requires.1 _ c.requires.2 (some _ c.if-digits-eq0.false) _ near.0 near.1
+returns c = let near = rounded (c.args.digits * c.args.rate.hertz) in
+    sym (dialling-there _ c.args.rate.slow c.args.rate.fast _ c.requires (some _ c.if-digits-eq0.false) _ near.0 near.1
     (subst (λ (z : ℕ). c.args.digits ≤ z) (digit (goal.at.returns c).After-dialling_phase-phase) c.if-phase-digits.false))

@@ -1,20 +1,12 @@
--- `text::places` meets its contract: at each turn the digits divided off and those of the rest are the number's (`Counted`).
--- The measure is the rest. Assumes nothing.
-use native.Mathlib.Omega.{arith}
-use Rattle.text.proofs.Texts.{count-first, count-more, count-last}
+-- `text::places` meets its contract: one digit more than the power of ten that the number reaches. Assumes nothing.
+use mathlib.Core.Path.{refl}
+use Rattle.text.specs.Digits.{decimal_of, decimal_from, decimal_if, places_of}
+use Rattle.text.proofs.Pages.{places-between}
 use Rattle.text.proofs.places.Goals as goal
 
-pub loop-rest-init : goal.loop-rest-init
-loop-rest-init c = count-first _ c.ranges.number.fits
+pub returns-in-None : goal.returns-in-None
+unfolding places_of decimal_of decimal_from decimal_if
+returns-in-None c = rw c.in-None.ensures.none refl
 
-pub overflow_add-count : goal.overflow_add-count
-overflow_add-count c = omega (arith, c.loop-rest.invariant.turns)
-
-pub loop-rest-smaller : goal.loop-rest-smaller
-loop-rest-smaller c = omega arith
-
-pub loop-rest-preserved : goal.loop-rest-preserved
-loop-rest-preserved c = count-more c.loop-rest-test.true c.loop-rest.invariant
-
-pub returns : goal.returns
-returns c = count-last c.loop-rest-test.false c.loop-rest.invariant
+pub returns-in-Some : goal.returns-in-Some
+returns-in-Some c = let e = c.in-Some.ensures in places-between c.in-Some.power c.args.number e.bound e.power_le e.next_power_gt

@@ -1,7 +1,6 @@
 -- `bits::read` meets its contract: the reader is lent the front that the line names. Assumes nothing.
 use Prim.Native.Nat.{ℕ}
 use mathlib.Core.Path.{ap, ◌∙◌}
-use native.Mathlib.Nat.{sub-zero}
 use borrow.Author.Tests.{le-leb, lt-leb}
 use lib.Seq.{length-take-le}
 use Rattle.deframe.specs.Read.{marks_of, read_of, answer_of}
@@ -15,4 +14,4 @@ returns c = let a = c.args in
     let fits = c.if-room-out.false in
     rw (le-leb _ _ fits)
     (c.read.ensures.value
-    ∙ ap (λ (n : ℕ). answer_of (read_of n a.place (marks_of a.string.now))) (rw sub-zero (length-take-le a.room a.out.now fits)))
+    ∙ ap (λ (n : ℕ). answer_of (read_of n a.place (marks_of a.string.now))) (length-take-le a.room a.out.now fits))

@@ -2,4 +2,4 @@
 use Rattle.panel.proofs.shown.unframed.Goals as goal
 
 pub returns : goal.returns
-returns c = rw (c.show.ensures, c.number.ensures)
+returns c = rw (c.show.ensures, c.answer_number.ensures)
