@@ -26,6 +26,7 @@ use Rattle.set.specs.declared.Filled.{Filled}
 use Rattle.set.specs.Refusals.{Checked, accepted, either, checked}
 use Rattle.set.proofs.Unchanged.{checked-is, told-if}
 use Rattle.set.specs.Set as set
+use Rattle.set.specs.Set.{set_typed}
 use Rattle.set.specs.Book as book
 use Rattle.set.specs.Book.{Book, typing, time, entry_of, declined_with, fed_by, lapsed_by, entered}
 use Rattle.set.specs.Event as inner
@@ -281,7 +282,7 @@ module _ (r : ℕ) (ok : rate_ok r ≡ true) (s : Set) (t : Table) (h : SinceDia
         pub short : length later.text ≤ 256
         pub number : answer_number (checked answer) ≡ declined_with t.book (typing value carrier n)
         pub sent : uart.sent_written answer ≡ either (accepted (checked a)) (fed_by t.book value carrier n).sent 0
-        pub inside : set.set_typed s a ≡ (uart.chip_written c answer).set
+        pub inside : set_typed s a ≡ (uart.chip_written c answer).set
 
     typing-by : (a : Result Typed Refusal) → typed ≡ a → Typing a
     unfolding accepted
