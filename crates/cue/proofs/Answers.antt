@@ -42,9 +42,12 @@ pub cued-answers : (s : Set) (p : ℕ) (answer : Result Cued Refusal) → answer
 unfolding cued
 cued-answers s p answer is =
     let refused = checked-is (cue_cause s p) (found s p) in
-    rw is (refused, λ no.
-        let declined : Declined (cue_cause s p) = rw (← refused) no in
-        (untold (cue_cause s p) declined _ 0 (found s p), untold (cue_cause s p) declined _ None (found s p)))
+    rw is (
+      refused,
+      λ no.
+          let declined : Declined (cue_cause s p) = rw (← refused) no in
+          (untold (cue_cause s p) declined _ 0 (found s p), untold (cue_cause s p) declined _ None (found s p)),
+    )
 
 -- an answer that is no cause is what is found
 taken-is : (s : Set) (p : ℕ) (answer : Cued) → Ok answer ≡ cued s p → answer ≡ found s p

@@ -215,7 +215,13 @@ fn feed_all(set: Set, string: &[u8], carrier: bool, outbox: &mut [u8], codes: &m
         Ok(all) => {
             let sent = all.sent;
             let places = 3 * string.len();
-            show(all.set, 0, Reply::None, Second::String { sent, places }, true)
+            show(
+                all.set,
+                0,
+                Reply::None,
+                Second::String { sent, places },
+                true,
+            )
         }
         Err(refusal) => {
             let sent = 0;

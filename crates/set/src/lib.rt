@@ -232,7 +232,13 @@ impl Set {
     // A whole string typed at the panel, as its bytes typed singly. Byte i has three places of `codes`,
     // from 3i: its two codes, 0 for none, and the S12 after it.
     #[tactic(auto, unfolding(crate::specs::String::typed_all, crate::specs::String::outbox_all, crate::specs::String::codes_all, crate::specs::Refusals::accepted))]
-    pub fn feed_all(self, bytes: &[u8], carrier: bool, out: &mut [u8], codes: &mut [u8]) -> Result<TypedAll, Refusal>
+    pub fn feed_all(
+        self,
+        bytes: &[u8],
+        carrier: bool,
+        out: &mut [u8],
+        codes: &mut [u8],
+    ) -> Result<TypedAll, Refusal>
         ensures value { result ≡ typed_all self bytes.now carrier (length out.old) (length codes.old) }
         ensures out_after { out.new ≡ outbox_all self bytes.now carrier out.old (length codes.old) }
         ensures codes_after { codes.new ≡ codes_all self bytes.now carrier (length out.old) codes.old }

@@ -466,7 +466,13 @@ impl Chip {
 
     // A register is written; a byte for address 0 is typed into the set.
     #[tactic(auto, unfolding(crate::specs::Chip::write, crate::specs::Chip::outbox))]
-    pub fn write(self, address: u8, value: u8, carrier: bool, out: &mut [u8]) -> Result<Written, Refusal>
+    pub fn write(
+        self,
+        address: u8,
+        value: u8,
+        carrier: bool,
+        out: &mut [u8],
+    ) -> Result<Written, Refusal>
         ensures value { result ≡ write self address value carrier (length out.old) }
         ensures out_after { out.new ≡ outbox self address value out.old }
     {
@@ -476,7 +482,13 @@ impl Chip {
         self.write_sound(address, value, carrier, out)
     }
 
-    fn write_sound(self, address: u8, value: u8, carrier: bool, out: &mut [u8]) -> Result<Written, Refusal>
+    fn write_sound(
+        self,
+        address: u8,
+        value: u8,
+        carrier: bool,
+        out: &mut [u8],
+    ) -> Result<Written, Refusal>
         ensures value { result ≡ write_if true (leb address 7) self address value carrier (length out.old) }
         ensures out_after { out.new ≡ outbox_if true (leb address 7) self address value out.old }
     {
