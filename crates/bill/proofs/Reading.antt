@@ -1,11 +1,10 @@
 -- What a line of `bill` comes to and what is printed for it, read off the four functions, which ask nothing, so that a promise that says less is refused
 -- here. Assumes nothing.
 use Prim.Native.Nat.{ℕ}
-use mathlib.Core.List.{List}
 use mathlib.Core.Path.{◌≡◌}
 use contract.Lifetimes.{Lfts}
 use denote.Ref.{MutBor, at_last}
-use Rattle.text.specs.Text.{page_of}
+use Rattle.text.specs.Page.{Page}
 use Rattle.bill.specs.declared.lines.Line.{Line}
 use Rattle.bill.specs.declared.lines.Asked.{Asked}
 use Rattle.bill.specs.Lines.{fresh_line, next_of, asked_of}
@@ -25,7 +24,7 @@ module _ (l : Line) where
   pub asks : asked.Asked tt (l, tt) × ((a : Asked) → asked.Learnt tt (l, tt) a (l, tt) → a ≡ asked_of l)
   asks = (tt, λ a d. d)
 
-pub answers : (κs : Lfts 1) (out : MutBor (List ℕ)) (at : ℕ) (a : Asked)
-    → put-answer.Asked κs (out, (at, (a, tt)))
-    × ((left : List ℕ) (end : ℕ) → put-answer.Learnt κs (out, (at, (a, tt))) end (at_last out left, (at, (a, tt))) → page_of left end ≡ answered (page_of out.now at) a)
-answers κs out at a = (tt, λ left end d. d)
+pub answers : (κs : Lfts 1) (on : MutBor Page) (a : Asked)
+    → put-answer.Asked κs (on, (a, tt))
+    × ((left : Page) → put-answer.Learnt κs (on, (a, tt)) tt (at_last on left, (a, tt)) → left ≡ answered on.now a)
+answers κs on a = (tt, λ left d. d)

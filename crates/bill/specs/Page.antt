@@ -3,7 +3,7 @@ use Rattle.std.specs.Prelude.{ℕ, Result}
 use Rattle.refusal.specs.declared.Refusal.{Refusal}
 use Rattle.refusal.specs.Refusal.{answer_number}
 use Rattle.ascii.specs.Ascii.{ascii}
-use Rattle.text.specs.Text.{Page, add_of}
+use Rattle.text.specs.Page.{Page, add_of}
 use Rattle.text.specs.Digits.{decimal_of}
 use Rattle.tariff.specs.declared.Bill.{Bill}
 use Rattle.tariff.specs.Tariff.{told, bill_of}

@@ -6,7 +6,7 @@ ghost use Rattle.nco.specs.Lent.{lent_sample, lent_nco};
 
 use crate::tried;
 use math::TAU;
-use nco::{Nco, Stepped};
+use nco::Nco;
 
 pub fn oscillators(output: &impl Print) {
     twice(output, 0.5, 0.25);
@@ -23,14 +23,15 @@ pub fn oscillators(output: &impl Print) {
 
 // The record is lent again as the first call left it.
 fn twice(output: &impl Print, phase: f64, step: f64) {
-    let first = stepped(at_8000(phase, step));
-    let second = stepped(first.nco);
-    line(output, b"lent", first);
-    line(output, b"lent again", second);
+    let (sample, first) = stepped(at_8000(phase, step));
+    let (again, second) = stepped(first);
+    line(output, b"lent", sample, first);
+    line(output, b"lent again", again, second);
 }
 
 fn one(output: &impl Print, name: &[u8], phase: f64, step: f64) {
-    line(output, name, stepped(at_8000(phase, step)));
+    let (sample, after) = stepped(at_8000(phase, step));
+    line(output, name, sample, after);
 }
 
 fn at_8000(phase: f64, step: f64) -> Nco {
@@ -42,19 +43,18 @@ fn at_8000(phase: f64, step: f64) -> Nco {
 }
 
 // The one function that lends a record; a proof of the others follows their code by itself.
-fn stepped(nco: Nco) -> Stepped
-    ensures { (result.sample ≡ lent_sample nco) × (result.nco ≡ lent_nco nco) }
+fn stepped(nco: Nco) -> (f64, Nco)
+    ensures { (result.0 ≡ lent_sample nco) × (result.1 ≡ lent_nco nco) }
 {
     let mut lent = nco;
     let sample = nco::lent::next_lent(&mut lent);
-    Stepped { sample, nco: lent }
+    (sample, lent)
 }
 
-fn line(output: &impl Print, name: &[u8], after: Stepped) {
+fn line(output: &impl Print, name: &[u8], sample: f64, nco: Nco) {
     let mut page = [0u8; 128];
-    let nco = after.nco;
     let mut k = text::put(&mut page, 0, name);
-    k = put_float(&mut page, k, b" sample", after.sample);
+    k = put_float(&mut page, k, b" sample", sample);
     k = put_float(&mut page, k, b" phase", nco.phase);
     k = put_float(&mut page, k, b" step", nco.step);
     k = put_float(&mut page, k, b" rate", nco.rate);

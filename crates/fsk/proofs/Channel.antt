@@ -1,5 +1,5 @@
 -- A channel after a sample: its symbol phase and its bits done, by whether a bit is done, and the bit that is then set, by whether the payload has it. Assumes nothing.
-use Prim.Native.Nat.{ℕ, ◌<◌}
+use Prim.Native.Nat.{ℕ, ◌+◌, ◌<◌, ◌≤◌, min}
 use native.Mathlib.Numerals.{add-one}
 use mathlib.Core.Path.{◌≡◌, refl, ◌∙◌}
 use mathlib.Core.Bool.{Bool, true, false}
@@ -11,20 +11,25 @@ use borrow.Author.Tests.{ltb-true, ltb-false}
 use Rattle.math.specs.Float.{f64, of_nat}
 use Rattle.frame.specs.Frame.{framed, bit_at}
 use Rattle.schedule.specs.Symbols.{next_phase, done_by}
-use Rattle.schedule.proofs.Count.{inc-below}
+use Rattle.schedule.proofs.Count.{inc-below, inc_saturates}
 use Rattle.fsk.specs.declared.Modulator.{Modulator}
 use Rattle.fsk.specs.declared.FskChannel.{FskChannel}
 use Rattle.fsk.specs.Modulator.{keyed, bit_ends, next_modulator}
 use Rattle.fsk.specs.Channel.{next_keyed, most_done, one_more_done, channel_by, next_channel}
 
 -- the code's literals are 01's numbers
-pub mark-is : f64 0x408e_a000_0000_0000 ≡ of_nat 980
+pub mark_is : f64 0x408e_a000_0000_0000 ≡ of_nat 980
 unfolding lib.Ieee.of_bits lib.Ieee.of_int
-mark-is = refl
+mark_is = refl
 
-pub space-is : f64 0x4092_7000_0000_0000 ≡ of_nat 1180
+pub space_is : f64 0x4092_7000_0000_0000 ≡ of_nat 1180
 unfolding lib.Ieee.of_bits lib.Ieee.of_int
-space-is = refl
+space_is = refl
+
+-- std's `saturating_add` of one counts as 02, E5 has it
+pub one_more_done_is : (done : ℕ) → done ≤ most_done → one_more_done done ≡ min (done + 1) most_done
+unfolding one_more_done
+one_more_done_is done h = inc_saturates most_done done h
 
 module _ (payload : List ℕ) (k : ℕ) (m : Modulator) where
   pub next_bit : ltb k (length (framed payload)) ≡ true → next_keyed (drop k (framed payload)) m ≡ keyed m (of_nat 980) (of_nat 1180) (bit_at payload k)

@@ -7,7 +7,7 @@
 ghost use Rattle.std.specs.Prelude.{◌≡◌, drop};
 ghost use Rattle.frame.specs.Frame.{framed};
 ghost use Rattle.fsk.specs.Modulator.{tone_of, fresh_modulator, keyed, modulator_sample, bit_ends, next_modulator};
-ghost use Rattle.fsk.specs.Channel.{fresh_channel, next_keyed, channel_sample, one_more_done, next_channel};
+ghost use Rattle.fsk.specs.Channel.{fresh_channel, next_keyed, next_channel};
 
 use nco::Nco;
 
@@ -25,42 +25,24 @@ pub struct Modulator {
     pub step: f64,
 }
 
-// A modulator after a sample, and whether a bit is done with that sample.
-#[derive(Clone, Copy)]
-pub struct Ticked {
-    pub modulator: Modulator,
-    pub done: bool,
-}
-
 #[derive(Clone, Copy)]
 pub struct FskChannel {
     pub modulator: Modulator,
     pub done: u16,
 }
 
-// One sample, and the channel after it.
-#[derive(Clone, Copy)]
-pub struct Keyed {
-    pub sample: f64,
-    pub fsk: FskChannel,
-}
-
 fn tone(mark: f64, space: f64, bit: bool) -> f64
     ensures { result ≡ tone_of mark space bit }
 {
-    if bit {
-        return mark;
-    }
-    space
+    if bit { mark } else { space }
 }
 
 impl Modulator {
     pub fn new(mark: f64, space: f64, rate: u32, first: bool) -> Modulator
         ensures { result ≡ fresh_modulator mark space rate first }
     {
-        let nco = Nco::new(tone(mark, space, first), rate as f64);
         Modulator {
-            nco,
+            nco: Nco::new(tone(mark, space, first), rate as f64),
             phase: 0.0,
             step: schedule::symbol_step(rate),
         }
@@ -70,12 +52,9 @@ impl Modulator {
     pub fn set_bit(self, mark: f64, space: f64, bit: bool) -> Modulator
         ensures { result ≡ keyed self mark space bit }
     {
-        let nco = self.nco;
-        let tuned = nco.set_freq(tone(mark, space, bit));
         Modulator {
-            nco: tuned,
-            phase: self.phase,
-            step: self.step,
+            nco: self.nco.set_freq(tone(mark, space, bit)),
+            ..self
         }
     }
 
@@ -85,21 +64,14 @@ impl Modulator {
         math::sin(self.nco.phase) * FSK_AMPLITUDE
     }
 
-    // The modulator after one sample, still at the same bit.
-    pub fn tick(self) -> Ticked
-        ensures { (result.modulator ≡ next_modulator self) × (result.done ≡ bit_ends self) }
+    // One sample on, still at the same bit; whether a bit is done with that sample.
+    pub fn tick(&mut self) -> bool
+        ensures { (result ≡ bit_ends self.old) × (self.new ≡ next_modulator self.old) }
     {
-        let nco = self.nco;
-        let moved = nco.moved();
         let t = schedule::tick(self.phase, self.step);
-        Ticked {
-            modulator: Modulator {
-                nco: moved,
-                phase: t.phase,
-                step: self.step,
-            },
-            done: t.done,
-        }
+        self.nco = self.nco.moved();
+        self.phase = t.phase;
+        t.done
     }
 }
 
@@ -114,17 +86,8 @@ fn set_next(m: Modulator, payload: &[u8], index: u16) -> Modulator
     m
 }
 
-// One more bit is done; the largest count stays.
-fn saturating_inc(done: u16) -> u16
-    ensures { result ≡ one_more_done done }
-{
-    if done < 0xffff {
-        return done + 1;
-    }
-    done
-}
-
 impl FskChannel {
+    #[tactic(auto, using(crate::proofs::Channel::mark_is, crate::proofs::Channel::space_is), unfolding(crate::specs::Channel::fresh_channel))]
     pub fn new(payload: &[u8], rate: u32) -> FskChannel
         ensures { result ≡ fresh_channel payload.now rate }
     {
@@ -136,49 +99,24 @@ impl FskChannel {
     }
 
     // The channel after one sample.
+    #[tactic(auto, using(crate::proofs::Channel::one_more_done_is), unfolding(crate::specs::Channel::next_channel))]
     pub fn moved(self, payload: &[u8]) -> FskChannel
         ensures { result ≡ next_channel self payload.now }
     {
-        let m = self.modulator;
-        let t = m.tick();
-        let ticked = t.modulator;
-        if t.done {
-            let k = saturating_inc(self.done);
-            return FskChannel {
-                modulator: set_next(ticked, payload, k),
-                done: k,
-            };
+        let mut modulator = self.modulator;
+        let mut done = self.done;
+        if modulator.tick() {
+            done = done.saturating_add(1);
+            modulator = set_next(modulator, payload, done);
         }
-        FskChannel {
-            modulator: ticked,
-            done: self.done,
-        }
+        FskChannel { modulator, done }
     }
-
-    pub fn next_sample(self, payload: &[u8]) -> Keyed
-        ensures { (result.sample ≡ channel_sample self) × (result.fsk ≡ next_channel self payload.now) }
-    {
-        let m = self.modulator;
-        let sample = m.sample();
-        let fsk = self.moved(payload);
-        Keyed { sample, fsk }
-    }
-}
-
-// A sample of each of two modulators.
-#[derive(Clone, Copy)]
-pub struct SampledTwice {
-    pub a: f64,
-    pub b: f64,
 }
 
 // The samples of two modulators, or of one and what it has become: their sines are worked out together.
-pub fn sample_twice(m: Modulator, n: Modulator) -> SampledTwice
-    ensures { (result.a ≡ modulator_sample m) × (result.b ≡ modulator_sample n) }
+pub fn sample_twice(m: Modulator, n: Modulator) -> (f64, f64)
+    ensures { (result.0 ≡ modulator_sample m) × (result.1 ≡ modulator_sample n) }
 {
-    let s = math::sin_twice(m.nco.phase, n.nco.phase);
-    SampledTwice {
-        a: s.a * FSK_AMPLITUDE,
-        b: s.b * FSK_AMPLITUDE,
-    }
+    let (a, b) = math::sin_both(m.nco.phase, n.nco.phase);
+    (a * FSK_AMPLITUDE, b * FSK_AMPLITUDE)
 }

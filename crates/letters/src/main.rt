@@ -1,18 +1,13 @@
 // Bits from standard input, as the characters 0 and 1, back into bytes on standard output.
 #![tactic(auto)]
 
-ghost use Rattle.std.specs.Prelude.{◌≡◌, false};
-
-use console::stream::Input;
+use console::stream::{Answers, Program};
 use deframe::Deframer;
-use std::io::Read;
 
-// What runs between two reads of the input.
-#[derive(Clone, Copy)]
+// What stands between two bytes of the input.
+#[derive(Drop)]
 struct Letters {
     reader: Deframer,
-    // the input has not ended, and nothing has failed
-    open: bool,
 }
 
 fn main(rt: HostRuntime) {
@@ -24,109 +19,26 @@ fn main(rt: HostRuntime) {
         );
         return;
     }
-    let reader = Deframer::new();
-    read_all(
-        &mut rt.stdin(),
-        &rt,
-        &errors,
-        Letters { reader, open: true },
-    );
+    let mut letters = Letters {
+        reader: Deframer::new(),
+    };
+    console::stream::run(&mut rt.stdin(), &rt, &errors, &mut letters);
 }
 
-// A proved loop has to end, and nothing says that the input does: the loop counts down from a number
-// that no run uses up.
-fn read_all(
-    input: &mut impl Read,
-    output: &impl Print,
-    errors: &impl Print,
-    l: Letters,
-) -> Letters {
-    let mut s = l;
-    let mut left = u64::MAX;
-    while left > 0 && s.open {
-        s = read_some(input, output, errors, s);
-        left -= 1;
+impl Program for Letters {
+    fn name(&self) -> &'static [u8] {
+        b"letters"
     }
-    s
-}
 
-// One read, its bits, and their bytes.
-fn read_some(
-    input: &mut impl Read,
-    output: &impl Print,
-    errors: &impl Print,
-    l: Letters,
-) -> Letters {
-    let mut buffer = [0u8; 4096];
-    let come = console::stream::read(input, &mut buffer);
-    let got = come.count;
-    if got == 0 {
-        return ended(errors, l, come);
-    }
-    spelled(output, errors, l, &buffer[..got])
-}
-
-// No more input came: it has ended, or it cannot be read.
-fn ended(errors: &impl Print, l: Letters, come: Input) -> Letters
-    ensures { result.open ≡ false }
-{
-    if let Some(why) = come.error {
-        console::stream::fail(errors, b"letters: standard input cannot be read", why);
-    }
-    Letters { open: false, ..l }
-}
-
-// No bit gives more than one byte, so there is room for all.
-fn spelled(output: &impl Print, errors: &impl Print, l: Letters, text: &[u8]) -> Letters {
-    let mut bits = [0u8; 4096];
-    let mut out = [0u8; 4096];
-    let from: usize = 0;
-    let reader = l.reader;
-    let count = bits_of(text, &mut bits);
-    if count > 4096 {
-        return l;
-    }
-    let reading = reader.read(&bits[from..count], &mut out);
-    let place = reading.place;
-    let open = written(output, errors, &out, reading.given);
-    Letters {
-        reader: place,
-        open,
-    }
-}
-
-fn written(output: &impl Print, errors: &impl Print, out: &[u8], given: usize) -> bool {
-    match console::stream::flush(output, out, given) {
-        Ok(()) => true,
-        Err(why) => {
-            console::stream::fail(errors, b"letters: standard output cannot be written", why);
-            false
+    // Other characters than 0 and 1 are passed over.
+    fn take(&mut self, byte: u8, answers: &mut Answers) {
+        if matches!(byte, b'0' | b'1') {
+            if let Some(letter) = self.reader.push_bit(byte == b'1') {
+                answers.put_byte(letter);
+            }
         }
     }
-}
 
-// The characters 0 and 1 of a text as bits at the buffer's front, and how many they are; others are passed over.
-fn bits_of(text: &[u8], bits: &mut [u8]) -> usize {
-    let mut n: usize = 0;
-    let mut i: usize = 0;
-    while i < text.len() {
-        n = put_bit(text[i], n, bits);
-        i += 1;
-    }
-    n
-}
-
-fn put_bit(byte: u8, n: usize, bits: &mut [u8]) -> usize {
-    if (byte == b'0') | (byte == b'1') {
-        return push(byte % 2, n, bits);
-    }
-    n
-}
-
-fn push(bit: u8, n: usize, bits: &mut [u8]) -> usize {
-    if n < bits.len() {
-        bits[n] = bit;
-        return n + 1;
-    }
-    n
+    // A frame that has not ended is no byte.
+    fn finish(&mut self, _answers: &mut Answers) {}
 }

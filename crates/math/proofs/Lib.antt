@@ -11,5 +11,4 @@ pub mod Wrapping
 pub mod Equal
 pub mod Units
 pub mod Constants
-pub mod FullWave
 pub mod Size

@@ -30,12 +30,14 @@ fn lower(x: f64) -> f64
     if x >= H { x - H } else { x }
 }
 
+#[tactic(auto, unfolding(crate::specs::Sine::folded))]
 fn fold(y: f64) -> f64
     ensures { result ≡ folded y }
 {
     if y > Q { H - y } else { y }
 }
 
+#[tactic(auto, unfolding(crate::specs::Sine::quarter_wave, crate::specs::Sine::series))]
 fn quarter_wave(y: f64) -> f64
     ensures { result ≡ quarter_wave y }
 {
@@ -55,15 +57,11 @@ fn sign(x: f64, r: f64) -> f64
     if x >= H { -r } else { r }
 }
 
-fn guard(x: f64, r: f64) -> f64
-    ensures { result ≡ cond (le zero x && lt x tau) r zero }
+// A phase or a step is in [0, TAU).
+pub fn phase_in_range(x: f64) -> bool
+    ensures { result ≡ (le zero x && lt x tau) }
 {
-    if x >= 0.0 {
-        if x < TAU {
-            return r;
-        }
-    }
-    0.0
+    (x >= 0.0) & (x < TAU)
 }
 
 // S without its guard.
@@ -74,74 +72,37 @@ fn full_wave(x: f64) -> f64
 }
 
 // S. Each choice is between two values that are worked out already, so that two sines share the lanes of one division.
+#[tactic(auto, unfolding(crate::specs::Sine::sine))]
 pub fn sin(x: f64) -> f64
     ensures { result ≡ sine x }
 {
-    guard(x, full_wave(x))
+    let r = full_wave(x);
+    if phase_in_range(x) { r } else { 0.0 }
 }
 
-// S, worked out only where x is in the turn: the rare way out of `sin_both`.
-fn sin_rare(x: f64) -> f64
-    ensures { result ≡ sine x }
+// The rare way out of `sin_both`, a call by itself.
+#[cold]
+#[inline(never)]
+fn sin_rares(a: f64, b: f64) -> (f64, f64)
+    ensures { (result.0 ≡ sine a) × (result.1 ≡ sine b) }
 {
-    if x >= 0.0 {
-        if x < TAU {
-            return full_wave(x);
-        }
-    }
-    0.0
+    (sin(a), sin(b))
 }
 
-#[derive(Clone, Copy)]
-pub struct SinPair {
-    pub a: f64,
-    pub b: f64,
-}
-
-fn phase_in_range(a: f64, b: f64) -> bool
-    ensures { result ≡ ((le zero a && lt a tau) && (le zero b && lt b tau)) }
+// Two sines with one test for both: their values meet after it, which is where the compiler starts to pair lanes. By itself it would make a call of
+// this for each pair, which takes a fifth longer.
+#[inline(always)]
+#[tactic(auto, unfolding(crate::specs::Sine::sine))]
+pub fn sin_both(a: f64, b: f64) -> (f64, f64)
+    ensures { (result.0 ≡ sine a) × (result.1 ≡ sine b) }
 {
-    ((a >= 0.0) & (a < TAU)) & ((b >= 0.0) & (b < TAU))
-}
-
-fn full_waves(a: f64, b: f64) -> SinPair
-    ensures { (result.a ≡ full_wave a) × (result.b ≡ full_wave b) }
-{
-    SinPair {
-        a: full_wave(a),
-        b: full_wave(b),
-    }
-}
-
-fn sin_rares(a: f64, b: f64) -> SinPair
-    ensures { (result.a ≡ sine a) × (result.b ≡ sine b) }
-{
-    SinPair {
-        a: sin_rare(a),
-        b: sin_rare(b),
-    }
-}
-
-// Two sines with one test for both: their values meet after it, which is where the compiler starts to pair lanes.
-pub fn sin_both(a: f64, b: f64) -> SinPair
-    ensures { (result.a ≡ sine a) × (result.b ≡ sine b) }
-{
-    if phase_in_range(a, b) {
-        return full_waves(a, b);
+    if phase_in_range(a) & phase_in_range(b) {
+        return (full_wave(a), full_wave(b));
     }
     sin_rares(a, b)
 }
 
-// The same, for one more caller: with two, the compiler would make a call of it for each pair.
-pub fn sin_twice(a: f64, b: f64) -> SinPair
-    ensures { (result.a ≡ sine a) × (result.b ≡ sine b) }
-{
-    if phase_in_range(a, b) {
-        return full_waves(a, b);
-    }
-    sin_rares(a, b)
-}
-
+#[tactic(auto, unfolding(crate::specs::Decay::squared))]
 fn square_eight_times(p: f64) -> f64
     ensures { result ≡ squared 8 p }
 {
@@ -156,17 +117,16 @@ fn square_eight_times(p: f64) -> f64
 }
 
 // 01's E: the exponential of -u.
+#[tactic(auto, unfolding(crate::specs::Decay::decay, crate::specs::Sine::series))]
 pub fn exp(u: f64) -> f64
     ensures { result ≡ decay u }
 {
-    if u >= 0.0 {
-        if u < 8.0 {
-            let w = u / 256.0;
-            let a = series_step(1.0, w, 4.0);
-            let b = series_step(a, w, 3.0);
-            let c = series_step(b, w, 2.0);
-            return square_eight_times(series_step(c, w, 1.0));
-        }
+    if u >= 0.0 && u < 8.0 {
+        let w = u / 256.0;
+        let a = series_step(1.0, w, 4.0);
+        let b = series_step(a, w, 3.0);
+        let c = series_step(b, w, 2.0);
+        return square_eight_times(series_step(c, w, 1.0));
     }
     0.0
 }

@@ -1,13 +1,13 @@
 -- Samples made in a row: what holds while a loop plays them into a buffer, and what a stage that they are the samples of has then written.
 -- By induction on the count. Assumes nothing.
-use Prim.Native.Nat.{ℕ, zero, suc, ◌+◌, ◌≤◌, ◌<◌}
+use Prim.Native.Nat.{ℕ, zero, suc, min, ◌+◌, ◌≤◌, ◌<◌}
 use native.Mathlib.Nat.{le_antisymm, le_refl, le_of_lt, not-suc-le-zero}
 use native.Mathlib.Numerals.{add-one}
 use native.Mathlib.Omega.{arith}
 use mathlib.Core.Path.{◌≡◌, refl, sym, ap, subst, ◌∙◌}
 use mathlib.Core.Bool.{Bool, false}
 use mathlib.Core.List.{List, [], ◌∷◌, ◌++◌, append_assoc, append-nil}
-use lib.ListN.{length, drop, set, length-append, length-drop, drop_of_length-le, replicate-append-replicate}
+use lib.ListN.{length, take, drop, set, length-append, length-take, length-drop, drop_of_length-le, replicate-append-replicate}
 use lib.Seq.{drop-cons, set_at}
 use lib.Ieee.{Float, binary32, of_bits, nan}
 use Rattle.math.specs.Float as float
@@ -58,6 +58,22 @@ module _ {X : Type 0} (f : Source X) (most : ℕ) (x : X) (was : List Float) whe
 
     pub playing-done : most ≤ i → PlayedIs f most x was out y
     playing-done l = subst (λ (k : ℕ). PlayedIs f k x was out y) (le_antisymm P.few l) P.played
+
+-- ---- over a part that is the front of a buffer
+
+module _ (count : ℕ) (was : List Float) where
+  pub in-part : (i : ℕ) → i < length (take count was) → i < count
+  in-part i l = omega (arith, subst (λ (k : ℕ). i < k) (length-take count was) l)
+
+  pub part-done : (i : ℕ) → count ≤ length was → length (take count was) ≤ i → count ≤ i
+  part-done i h l = omega (arith, h, subst (λ (k : ℕ). k ≤ i) (length-take count was) l)
+
+  pub part-played : {X : Type 0} (f : Source X) (x : X) (is : List Float) (y : X) → PlayedIs f count x (take count was) is y → PlayedIs f count x was (is ++ drop count was) y
+  part-played f x is y P = record {
+    buffer = ap (λ (xs : List Float). xs ++ drop count was)
+        (P.buffer ∙ ap (λ (xs : List Float). made f count x ++ xs) (drop_of_length-le (take count was) {i = count} (rw length-take (omega arith))) ∙ append-nil (made f count x));
+    rest = P.rest;
+  }
 
 -- ---- zeros
 

@@ -7,6 +7,8 @@ ghost use Rattle.std.specs.Prelude.{◌≡◌, true, ◌++◌, ◌≤◌, ◌<�
 ghost use Rattle.schedule.specs.Length.{cj_bits};
 ghost use Rattle.stage.specs.declared.StageState.TheVariants.{OffHook, DialTone, Ringback, Ansam, Cj, Connected};
 ghost use Rattle.stage.specs.Next.{dial_state, onward};
+ghost use Rattle.tones.specs.declared.Mixed.{Mixed};
+ghost use Rattle.nco.specs.declared.Nco.{Nco};
 ghost use Rattle.tones.specs.Mixed.{gated_of, answer_of};
 ghost use Rattle.overture.specs.Iteration.{after, samples, shown_after, zeros};
 ghost use Rattle.overture.specs.Writers.{WroteIs, SentIs, PlayedIs, mixing, clicking};
@@ -14,7 +16,7 @@ ghost use Rattle.overture.specs.Writers.{WroteIs, SentIs, PlayedIs, mixing, clic
 use fsk::FskChannel;
 use nco::Nco;
 use stage::{Shown, StageState};
-use tones::Dial;
+use tones::{Dial, Mixed};
 
 // The state after the samples written, whether its stage ended with them, and how many they are.
 #[derive(Clone, Copy)]
@@ -45,23 +47,19 @@ pub struct Click {
     pub n: u32,
 }
 
+// Zeros in the whole buffer.
+pub fn silence(out: &mut [f32])
+    ensures { out.new ≡ zeros (length out.old) }
+{
+    out.fill(0.0);
+}
+
 // Zeros over the part's front.
 fn write_zeros(count: usize, out: &mut [f32])
     requires { count ≤ length out.old }
     ensures { out.new ≡ zeros count ++ drop count out.old }
 {
-    let mut i: usize = 0;
-    while i < count {
-        out[i] = 0.0;
-        i += 1;
-    }
-}
-
-// Zeros in the whole buffer.
-pub fn silence(out: &mut [f32])
-    ensures { out.new ≡ zeros (length out.old) }
-{
-    write_zeros(out.len(), out);
+    silence(&mut out[..count]);
 }
 
 fn play_click(rng: u64, n: u32, rate: u32, count: usize, out: &mut [f32]) -> Click
@@ -70,14 +68,31 @@ fn play_click(rng: u64, n: u32, rate: u32, count: usize, out: &mut [f32]) -> Cli
 {
     let mut x = rng;
     let mut k = n;
-    let mut i: usize = 0;
-    while i < count {
+    for sample in &mut out[..count] {
         x = tones::shift(x);
-        out[i] = math::narrow(tones::click_sample(x, schedule::seconds(k, rate)));
-        k = schedule::saturating_inc(k);
-        i += 1;
+        *sample = math::narrow(tones::click_sample(x, schedule::seconds(k, rate)));
+        k = k.saturating_add(1);
     }
     Click { rng: x, n: k }
+}
+
+// Two oscillators over the part's front, mixed sample by sample.
+#[inline(always)]
+fn play<F: Fn(Nco, Nco) -> Mixed>(mix: F, a: Nco, b: Nco, count: usize, out: &mut [f32]) -> Pair
+    requires callable { F.IsAlwaysCallable mix }
+    requires room { count ≤ length out.old }
+    ensures { (f : Nco → Nco → Mixed) → ((x y : Nco) (m : Mixed) → F.post mix x y m → m ≡ f x y)
+        → PlayedIs (mixing f) count (record { a = a; b = b }) out.old out.new result }
+{
+    let mut x = a;
+    let mut y = b;
+    for sample in &mut out[..count] {
+        let m = mix(x, y);
+        *sample = math::narrow(m.sample);
+        x = m.a;
+        y = m.b;
+    }
+    Pair { a: x, b: y }
 }
 
 // Two tones over the part's front.
@@ -85,19 +100,7 @@ fn play_tones(a: Nco, b: Nco, count: usize, out: &mut [f32]) -> Pair
     requires { count ≤ length out.old }
     ensures { PlayedIs (mixing (gated_of true)) count (record { a = a; b = b }) out.old out.new result }
 {
-    let mut x = a;
-    let mut y = b;
-    let mut i: usize = 0;
-    while i < count {
-        let p = tones::two_tones(x, y);
-        let next_x = p.a;
-        let next_y = p.b;
-        out[i] = math::narrow(p.sample);
-        i += 1;
-        x = next_x;
-        y = next_y;
-    }
-    Pair { a: x, b: y }
+    play(tones::two_tones, a, b, count, out)
 }
 
 // In tone, or in a gap, in which they rest.
@@ -117,19 +120,13 @@ fn play_answer(carrier: Nco, env: Nco, sign: f64, count: usize, out: &mut [f32])
     requires { count ≤ length out.old }
     ensures { PlayedIs (mixing (λ x y. answer_of x y sign)) count (record { a = carrier; b = env }) out.old out.new result }
 {
-    let mut x = carrier;
-    let mut y = env;
-    let mut i: usize = 0;
-    while i < count {
-        let p = tones::answer_tone(x, y, sign);
-        let next_x = p.a;
-        let next_y = p.b;
-        out[i] = math::narrow(p.sample);
-        i += 1;
-        x = next_x;
-        y = next_y;
-    }
-    Pair { a: x, b: y }
+    play(
+        |x, y| tones::answer_tone(x, y, sign),
+        carrier,
+        env,
+        count,
+        out,
+    )
 }
 
 // The state, or the next stage's first where it ended.
@@ -184,7 +181,7 @@ fn write_dialled(dial: Dial, n: u32, digits: &[u8], rate: u32, out: &mut [f32]) 
     requires { 0 < length out.old }
     ensures { WroteIs (dial_state dial n) digits.now rate out.old out.new result }
 {
-    let k = schedule::saturating_inc(n);
+    let k = n.saturating_add(1);
     let d = tones::dial_step(dial, k, digits, rate);
     let x = d.dial;
     let a = x.a;
@@ -307,14 +304,14 @@ fn write_bits(fsk: FskChannel, payload: &[u8], total: u16, out: &mut [f32]) -> S
         let g = f.moved(payload);
         let m = f.modulator;
         let n = g.modulator;
-        let s = fsk::sample_twice(m, n);
-        out[i] = math::narrow(s.a);
+        let (a, b) = fsk::sample_twice(m, n);
+        out[i] = math::narrow(a);
         i += 1;
         if g.done >= total {
             return Sent { fsk: g, written: i };
         }
         let h = g.moved(payload);
-        out[i] = math::narrow(s.b);
+        out[i] = math::narrow(b);
         i += 1;
         if h.done >= total {
             return Sent { fsk: h, written: i };
@@ -322,11 +319,10 @@ fn write_bits(fsk: FskChannel, payload: &[u8], total: u16, out: &mut [f32]) -> S
         f = h;
     }
     if i < out.len() {
-        let x = f.next_sample(payload);
-        let next = x.fsk;
-        out[i] = math::narrow(x.sample);
+        let m = f.modulator;
+        out[i] = math::narrow(m.sample());
         i += 1;
-        f = next;
+        f = f.moved(payload);
     }
     Sent { fsk: f, written: i }
 }

@@ -1,10 +1,12 @@
 -- The count after some samples more: their sum as far as there is room, and then the largest. By one sample after another. Assumes nothing.
 use mathlib.Core.Path.{◌≡◌, ap, ◌∙◌}
-use Prim.Native.Nat.{ℕ, zero, suc, ◌+◌, ◌≤◌, ◌<◌}
+use Prim.Native.Nat.{ℕ, zero, suc, min, ◌+◌, ◌≤◌, ◌<◌}
 use native.Mathlib.Nat.{le_refl}
 use native.Mathlib.Omega.{arith}
 use mathlib.Core.Bool.{Bool, true, false, not}
 use lib.Dec.{T, ltb, ltb→lt, nltb→le}
+use Rattle.std.proofs.Common.{inl, inr}
+use Rattle.std.proofs.lemmas.Bool.{cases_lt}
 use Rattle.schedule.specs.Time.{count_up, inc_up_to, saturating_inc}
 use Rattle.schedule.proofs.Count.{inc-stays, saturating-inc-is}
 use Rattle.runs.specs.Runs.{counted}
@@ -50,3 +52,11 @@ counted-le (suc j) n =
     let e = counted-le j n in
     let m = saturating-inc-le (counted j n) in
     omega arith
+
+-- c samples more by std's `saturating_add`
+pub added_is : (c n : ℕ) → n ≤ 0xffff_ffff → min (n + min c 0xffff_ffff) 0xffff_ffff ≡ counted c n
+added_is c n h =
+    elim (cases_lt 0xffff_ffff (n + c)) [
+      | inl l ↦ rw (counted-most c n h (omega arith)) (omega arith)
+      | inr l ↦ rw (counted_is c n l) (omega arith)
+    ]

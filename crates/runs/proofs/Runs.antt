@@ -2,7 +2,7 @@
 -- never quotient two numbers round, so no error is worked out. Values are in units of 2 ^ -1074, which hold them all. Assumes nothing.
 use mathlib.Core.Path.{◌≡◌, refl, sym, ap, ◌∙◌, subst}
 use mathlib.Core.Bool.{Bool, true, false, ◌&&◌, beq, and-eq-true_iff}
-use Prim.Native.Nat.{ℕ, zero, suc, ◌+◌, ◌-◌, ◌*◌, ◌/◌, ◌%◌, ◌^◌, ◌≤◌, ◌<◌}
+use Prim.Native.Nat.{ℕ, zero, suc, min, max, ◌+◌, ◌-◌, ◌*◌, ◌/◌, ◌%◌, ◌^◌, ◌≤◌, ◌<◌}
 use native.Mathlib.Nat.{le_trans, le_of_eq, le_antisymm, lt_of_le_of_lt, mul_comm, mul-le-mul_right, mul_right_comm, mul-div-le, le-div_iff_mul-le}
 use native.Mathlib.Omega.{arith}
 use lib.Dec.{T, leb, ltb, eqb, lit<, lit≤, leb→le, le→leb, ltb→lt, lt→ltb}
@@ -21,9 +21,9 @@ use Rattle.schedule.specs.Time.{min_rate, max_rate, time_at}
 use Rattle.schedule.specs.Dialling.{digit_at, in_tone}
 use Rattle.schedule.specs.Ansam.{reversal, sign_by, sign_at}
 use Rattle.schedule.specs.Ringback.{ring_cycle, ring_on, ring_off, ring_by, ring_time_by, ring_at, ring_time, ring_tone}
-use Rattle.runs.specs.declared.Clock.{Clock}
-use Rattle.runs.specs.declared.Clock.TheVariants.{Reversals, Rings}
-use Rattle.runs.specs.Runs.{counted, Least, Before, OneKey, same_reversal, same_part, same_gate, same_of, Alike, Run}
+use Rattle.runs.specs.Runs.{counted, Before, OneSign, OneGate, OneKey, Limits, EndsAgree, same_reversal, same_part, same_gate}
+use Rattle.std.proofs.Common.{inl, inr}
+use Rattle.std.proofs.lemmas.Bool.{cases_lt}
 use Rattle.schedule.proofs.Samples.{rate-value}
 use Rattle.schedule.proofs.Digits.{in-tone, in-gap}
 use Rattle.runs.proofs.Counted.{counted_is, counted-le}
@@ -242,41 +242,46 @@ module _ (r : ℕ) (lo : 8000 ≤ r) (hi : r ≤ 192000) where
               (subst (λ (b : Bool). same_part (ring_time_by b (time_at r n)) (ring_time_by (le ring_cycle (time_at r m)) (time_at r m)) ≡ true) (second_is n N) parts))),
         )
 
-  -- ---- a run
-  between : (clock : Clock) (n k m : ℕ) → n ≤ k → k ≤ m → m ≤ 2 ^ 32 → same_of clock (time_at r n) (time_at r m) ≡ true → Alike clock (time_at r k) (time_at r n)
-  between Reversals = sign-between
-  between Rings = gate-between
+-- ---- a run
+-- one sample is a run, and none is
+only : (j c n : ℕ) → c ≤ 1 → j < c → counted j n ≡ n
+unfolding counted
+only zero c n h l = refl
+only (suc j) c n h l = absurd (no h l)
+  where
+    no : c ≤ 1 → suc j < c → ⊥
+    no h l = omega arith
 
-  pub ends-agree : (clock : Clock) (n most c : ℕ) → n ≤ 0x4000_0000 → c ≤ 0x4000_0000 → (0 < most → 0 < c) → c ≤ most
-      → same_of clock (time_at r n) (time_at r (n + (c - 1))) ≡ true → Run clock r n most c
-  ends-agree clock n most c N C some fits e = record {
-    some = some;
-    fits = fits;
-    alike = λ j l. rw (counted_is j n (omega arith)) (between clock n (n + j) (n + (c - 1)) (omega arith) (omega arith) (omega arith) e);
+module _ (r n most c : ℕ) where
+  -- what lies between the ends is alike where it follows from the ends
+  between : (P : Float → Type 0) → P (time_at r n)
+      → ((L : Limits r n most) → 1 < c → (k : ℕ) → n ≤ k → k ≤ n + (c - 1) → P (time_at r k))
+      → (c ≤ most) → (1 < c → Limits r n most) → (j : ℕ) → j < c → P (time_at r (counted j n))
+  between P here along fits known j l =
+      elim (cases_lt 1 c) [
+        | inl m ↦ let L = known m in rw (counted_is j n (omega (arith, L.few, L.short))) (along L m (n + j) (omega arith) (omega arith))
+        | inr m ↦ rw (only j c n m l) here
+      ]
+
+  pub one_sign : EndsAgree (λ s t. true ≡ same_reversal s t) r n most c → OneSign r n most c
+  one_sign E = record {
+    some = E.some;
+    fits = E.fits;
+    sign = between (λ t. sign_at t ≡ sign_at (time_at r n)) refl
+        (λ L m k h l. sign-between r L.slow L.fast n k (n + (c - 1)) h l (omega (arith, L.few, L.short, E.fits)) (sym (E.ends m))) E.fits E.known;
   }
 
--- one sample is a run, and none is
-alike-itself : (clock : Clock) (t : Float) → Alike clock t t
-alike-itself Reversals t = refl
-alike-itself Rings t = (refl, refl)
-
-pub single : (clock : Clock) (r n most c : ℕ) → Least 1 most c → Run clock r n most c
-unfolding counted
-single clock r n most c L = record { some = L.some (lit< tt); fits = L.fits; alike = λ j l. rw (only j l) (alike-itself clock (time_at r n)) }
-  where
-    no : (j : ℕ) → suc j < c → ⊥
-    no j l = omega (arith, L.few)
-
-    only : (j : ℕ) → j < c → counted j n ≡ n
-    only zero l = refl
-    only (suc j) l = absurd (no j l)
-
--- where runs are looked for
-pub record Limits (r n most : ℕ) : Type 0 where
-  pub slow : 8000 ≤ r
-  pub fast : r ≤ 192000
-  pub few : n ≤ 0x4000_0000
-  pub short : most ≤ 0x4000_0000
+  pub one_gate : EndsAgree (λ s t. true ≡ same_gate s t) r n most c → OneGate r n most c
+  one_gate E = record {
+    some = E.some;
+    fits = E.fits;
+    ring = λ j l. (alike j l).0;
+    gate = λ j l. (alike j l).1;
+  }
+    where
+      alike : (j : ℕ) → j < c → (ring_at (time_at r (counted j n)) ≡ ring_at (time_at r n)) × (ring_tone (ring_time (time_at r (counted j n))) ≡ ring_tone (ring_time (time_at r n)))
+      alike = between (λ t. (ring_at t ≡ ring_at (time_at r n)) × (ring_tone (ring_time t) ≡ ring_tone (ring_time (time_at r n)))) (refl, refl)
+          (λ L m k h l. gate-between r L.slow L.fast n k (n + (c - 1)) h l (omega (arith, L.few, L.short, E.fits)) (sym (E.ends m))) E.fits E.known
 
 pub limits : (r n most : ℕ) → (leb min_rate r && leb r max_rate) && (leb n 0x4000_0000 && leb most 0x4000_0000) ≡ true → Limits r n most
 limits r n most e =
@@ -286,15 +291,8 @@ limits r n most e =
     record { slow = leb-true _ _ slow; fast = leb-true _ _ fast; few = leb-true _ _ few; short = leb-true _ _ short }
 
 -- what is left of a stage
-module _ (n end most c : ℕ) where
-  pub before-end : n < end → Least (end - n) most c → Before n end most c
-  before-end l L = record { some = L.some (omega arith); fits = L.fits; early = λ j i. let m = counted-le (suc j) n in omega (arith, L.few) }
-
-  pub before_last : Least 1 most c → Before n end most c
-  before_last L = record { some = L.some (lit< tt); fits = L.fits; early = λ j i. absurd (no j i) }
-    where
-      no : (j : ℕ) → suc j < c → ⊥
-      no j l = omega (arith, L.few)
+pub before_end : (n end most c : ℕ) → c ≡ min most (max (end - n) 1) → Before n end most c
+before_end n end most c e = record { some = λ h. omega (arith, e, h); fits = omega (arith, e); early = λ j l. omega (arith, e, l, counted-le (suc j) n) }
 
 -- ---- Dialling: off the edges digit and tone are told by whole numbers
 module _ (r n i most c : ℕ) (L : Limits r n most) (I : i ≤ 75) (fits : c ≤ most) where

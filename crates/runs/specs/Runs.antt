@@ -1,16 +1,14 @@
 -- No part of 01. A run: some samples in a row over which a clock of 01's tells the same. A writer that knows a run works the clock out once for
 -- all of it.
-use Rattle.std.specs.Prelude.{ℕ, zero, suc, ◌≤◌, ◌<◌, ◌≡◌, Bool, ◌&&◌, eqb, Float}
+use Rattle.std.specs.Prelude.{ℕ, zero, suc, ◌+◌, ◌-◌, ◌≤◌, ◌<◌, ◌≡◌, Bool, ◌&&◌, eqb, Float}
 use Rattle.std.specs.Bool.{beq}
 use Rattle.std.specs.Float.Ieee.{le, lt}
 use Rattle.math.specs.Float.{one, plus, over}
 use Rattle.math.specs.Whole.{floor_of}
-use Rattle.schedule.specs.Time.{time_at, saturating_inc}
+use Rattle.schedule.specs.Time.{min_rate, max_rate, time_at, saturating_inc}
 use Rattle.schedule.specs.Dialling.{digit_at, in_tone}
 use Rattle.schedule.specs.Ringback.{ring_on, ring_off, ring_at, ring_time, ring_tone}
 use Rattle.schedule.specs.Ansam.{reversal, sign_at}
-use Rattle.runs.specs.declared.Clock.{Clock}
-use Rattle.runs.specs.declared.Clock.TheVariants.{Reversals, Rings}
 
 -- the count after j samples more
 unfoldable pub counted : ℕ → ℕ → ℕ
@@ -62,18 +60,16 @@ same_part u v =
 unfoldable pub same_gate : Float → Float → Bool
 same_gate s t = eqb (ring_at s) (ring_at t) && same_part (ring_time s) (ring_time t)
 
--- by the clock
-abbrev pub same_of : Clock → Float → Float → Bool
-same_of Reversals s t = same_reversal s t
-same_of Rings s t = same_gate s t
+-- where runs are looked for: 01's rates, and counts far above any stage's
+pub record Limits (r n most : ℕ) : Type 0 where
+  pub slow : min_rate ≤ r
+  pub fast : r ≤ max_rate
+  pub few : n ≤ 0x4000_0000
+  pub short : most ≤ 0x4000_0000
 
--- what a clock tells of two times is the same
-abbrev pub Alike : Clock → Float → Float → Type 0
-Alike Reversals s t = sign_at s ≡ sign_at t
-Alike Rings s t = (ring_at s ≡ ring_at t) × (ring_tone (ring_time s) ≡ ring_tone (ring_time t))
-
--- c samples, some if there is room, of which a clock tells the same
-pub record Run (clock : Clock) (r n most c : ℕ) : Type 0 where
+-- c samples, some if there is room; where they are more than one, the first and the last are alike
+pub record EndsAgree (Alike : Float → Float → Type 0) (r n most c : ℕ) : Type 0 where
   pub some : 0 < most → 0 < c
   pub fits : c ≤ most
-  pub alike : (j : ℕ) → j < c → Alike clock (time_at r (counted j n)) (time_at r n)
+  pub known : 1 < c → Limits r n most
+  pub ends : 1 < c → Alike (time_at r n) (time_at r (n + (c - 1)))

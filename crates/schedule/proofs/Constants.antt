@@ -10,6 +10,6 @@ pub four : f64 0x4010_0000_0000_0000 ≡ of_nat 4
 unfolding lib.Ieee.of_bits lib.Ieee.of_int
 four = refl
 
-pub three-hundred : f64 0x4072_c000_0000_0000 ≡ of_nat 300
+pub three_hundred : f64 0x4072_c000_0000_0000 ≡ of_nat 300
 unfolding lib.Ieee.of_bits lib.Ieee.of_int
-three-hundred = refl
+three_hundred = refl

@@ -3,7 +3,7 @@
 #![tactic(auto)]
 
 ghost use Rattle.std.specs.Prelude.{◌≡◌, ◌≤◌};
-ghost use Rattle.schedule.specs.Time.{time_at, samples_in, saturating_inc};
+ghost use Rattle.schedule.specs.Time.{time_at, samples_in};
 ghost use Rattle.schedule.specs.Dialling.{digit_at, in_tone};
 ghost use Rattle.schedule.specs.Ringback.{ring_at, ring_time, ring_tone};
 ghost use Rattle.schedule.specs.Ansam.{sign_at};
@@ -45,16 +45,6 @@ pub const CJ_BITS: u16 = 60;
 
 pub const TRAINING_BITS: u16 = 300;
 
-// One more of a count; the largest stays.
-pub fn saturating_inc(n: u32) -> u32
-    ensures { result ≡ saturating_inc n }
-{
-    if n < 0xffff_ffff {
-        return n + 1;
-    }
-    n
-}
-
 // t = n / r
 pub fn seconds(n: u32, rate: u32) -> f64
     ensures { result ≡ time_at rate n }
@@ -63,6 +53,7 @@ pub fn seconds(n: u32, rate: u32) -> f64
 }
 
 // R(duration): how many samples duration seconds are.
+#[tactic(auto, unfolding(crate::specs::Time::samples_in))]
 pub fn stage_samples_for(duration: f64, rate: u32) -> u64
     ensures { result ≡ samples_in duration rate }
 {
@@ -76,6 +67,7 @@ pub struct DiallingPhase {
     pub tone: bool,
 }
 
+#[tactic(auto, unfolding(crate::specs::Dialling::digit_at, crate::specs::Dialling::in_tone))]
 pub fn dialling_phase(t: f64) -> DiallingPhase
     ensures { (result.digit ≡ digit_at t) × (result.tone ≡ in_tone t) }
 {
@@ -114,6 +106,7 @@ pub fn dialling_samples(digits: u64, rate: u32) -> u64
 }
 
 // Whether the cadence is in tone, time seconds into its ring.
+#[tactic(auto, unfolding(crate::specs::Ringback::ring_tone))]
 pub fn ringback_gate(time: f64) -> bool
     ensures { result ≡ ring_tone time }
 {
@@ -127,6 +120,7 @@ pub struct RingProgress {
     pub time: f64,
 }
 
+#[tactic(auto, using(crate::proofs::Constants::three), unfolding(crate::specs::Ringback::ring_at, crate::specs::Ringback::ring_time))]
 pub fn ring_progress(t: f64) -> RingProgress
     ensures { (result.ring ≡ ring_at t) × (result.time ≡ ring_time t) }
 {
@@ -140,6 +134,7 @@ pub fn ring_progress(t: f64) -> RingProgress
 }
 
 // ANSam's phase reversals.
+#[tactic(auto, unfolding(crate::specs::Ansam::sign_at))]
 pub fn reversal_sign(t: f64) -> f64
     ensures { result ≡ sign_at t }
 {
@@ -150,6 +145,7 @@ pub fn reversal_sign(t: f64) -> f64
 }
 
 // 300 / r
+#[tactic(auto, using(crate::proofs::Constants::three_hundred), unfolding(crate::specs::Symbols::symbol_step))]
 pub fn symbol_step(rate: u32) -> f64
     ensures { result ≡ symbol_step rate }
 {
@@ -163,6 +159,7 @@ pub struct Ticked {
     pub done: bool,
 }
 
+#[tactic(auto, unfolding(crate::specs::Symbols::symbol_ends, crate::specs::Symbols::next_phase))]
 pub fn tick(phase: f64, step: f64) -> Ticked
     ensures { (result.phase ≡ next_phase step phase) × (result.done ≡ symbol_ends step phase) }
 {

@@ -84,17 +84,16 @@ impl Sender {
     }
 
     // After a sample: the oscillator steps, and the symbol clock.
+    #[tactic(auto, unfolding(crate::specs::Sender::ticked))]
     fn ticks(self) -> Sender
         ensures { result ≡ ticked self }
     {
-        let m = self.modulator;
-        let t = m.tick();
-        let modulator = t.modulator;
+        let mut modulator = self.modulator;
+        let edge = modulator.tick();
         Sender {
             modulator,
-            byte: self.byte,
-            begun: self.begun,
-            edge: t.done,
+            edge,
+            ..self
         }
     }
 
@@ -109,8 +108,8 @@ impl Sender {
             let t = s.ticks();
             let first = s.modulator;
             let second = t.modulator;
-            let v = fsk::sample_twice(first, second);
-            out[i] = math::narrow(v.a);
+            let (a, b) = fsk::sample_twice(first, second);
+            out[i] = math::narrow(a);
             i += 1;
             if t.edge {
                 return Played {
@@ -119,7 +118,7 @@ impl Sender {
                 };
             }
             let u = t.ticks();
-            out[i] = math::narrow(v.b);
+            out[i] = math::narrow(b);
             i += 1;
             if u.edge {
                 return Played {

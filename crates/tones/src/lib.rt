@@ -83,18 +83,15 @@ pub fn ansam_sample(carrier: f64, env: f64, sign: f64) -> f64
     carrier_sample * envelope * ANSAM_SCALE
 }
 
-// Two oscillators mixed.
+// Two oscillators mixed. `Nco::next` would have a loop read them in other pieces than they were stored, which a short buffer notices.
+#[tactic(auto, unfolding(crate::specs::Mixed::gated_of))]
 pub fn two_tones(a: Nco, b: Nco) -> Mixed
     ensures { result ≡ gated_of true a b }
 {
-    let x = a.next();
-    let y = b.next();
-    let next_a = x.nco;
-    let next_b = y.nco;
     Mixed {
-        sample: mix(x.sample, y.sample),
-        a: next_a,
-        b: next_b,
+        sample: mix(math::sin(a.phase), math::sin(b.phase)),
+        a: a.moved(),
+        b: b.moved(),
     }
 }
 
@@ -227,17 +224,14 @@ pub fn dial_step(dial: Dial, n: u32, digits: &[u8], rate: u32) -> Dialled
 }
 
 // One sample of ANSam, at its sign.
+#[tactic(auto, unfolding(crate::specs::Mixed::answer_of))]
 pub fn answer_tone(carrier: Nco, env: Nco, sign: f64) -> Mixed
     ensures { result ≡ answer_of carrier env sign }
 {
-    let both = nco::next_both(carrier, env);
-    let x = both.a;
-    let y = both.b;
-    let next_carrier = x.nco;
-    let next_env = y.nco;
+    let (x, y) = math::sin_both(carrier.phase, env.phase);
     Mixed {
-        sample: ansam_sample(x.sample, y.sample, sign),
-        a: next_carrier,
-        b: next_env,
+        sample: ansam_sample(x, y, sign),
+        a: carrier.moved(),
+        b: env.moved(),
     }
 }

@@ -2,7 +2,6 @@
 use mathlib.Core.Path.{sym, subst}
 use lib.Dec.{T}
 use lib.Ieee.{binary64, fits}
-use Rattle.math.proofs.Pattern.{not-nan}
 use Rattle.math.proofs.Whole.{cut_small, cut-middle, cut-large, cut-negative, cut-nan}
 use Rattle.math.proofs.double.Goals as goal
 use Rattle.math.proofs.double.Goals.{Start}
@@ -10,9 +9,6 @@ use Rattle.math.proofs.double.Goals.{Start}
 -- what owning an `f64` tells: the format holds it
 held : (c : Start) → T (fits binary64 c.args.x)
 held c = subst T (sym c.well_formed.0.1) tt
-
-pub float_to_bits-b : goal.float_to_bits-b
-float_to_bits-b c = not-nan c.args.x c.if-x.true
 
 pub returns-then-e-lt1022 : goal.returns-then-e-lt1022
 returns-then-e-lt1022 c = cut_small c.args.x (held (goal.at.returns-then-e-lt1022 c).Start) c.if-b-lt9223372036854775808.true c.if-e-lt1022.true

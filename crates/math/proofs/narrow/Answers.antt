@@ -1,6 +1,5 @@
 -- `narrow` meets its contract: the sign's bit and `narrow_bits` make the pattern of the rounded value, which is no NaN's. Assumes nothing.
 use Rattle.math.proofs.Narrowing.{narrow_bits-le, narrow_bits-no-nan, narrow-small, narrow-large, narrow-nan, sign_le, zero-narrow, field-small, field-large, low-digits}
-use Rattle.math.proofs.Pattern.{not-nan}
 use Rattle.math.specs.Steps.{narrow_bits}
 use lib.Ieee.{binary64, to_bits, fits}
 use lib.Dec.{T, leb}
@@ -29,9 +28,6 @@ small c =
     let h : c.sign_bit.result ≤ 2 ^ 31 = subst (λ (z : ℕ). z ≤ 2 ^ 31) (sym c.sign_bit.ensures) (sign_le (leb (2 ^ 63) b)) in
     let k : c.narrow_bits.result ≤ 2 ^ 30 = subst (λ (z : ℕ). z ≤ 2 ^ 30) (sym (narrowed-bits c)) (narrow_bits-le (b % 2 ^ 63 / 2 ^ 52) (b % 2 ^ 52) (field-small _ c.if-m-lt4611686018427387904.true) (mod-lt b (pow_pos 52))) in
     omega arith
-
-pub float_to_bits-b : goal.float_to_bits-b
-float_to_bits-b c = not-nan c.args.x c.if-x.true
 
 pub overflow_add-p : goal.overflow_add-p
 overflow_add-p c = let h = small (goal.at.overflow_add-p c).After-narrow_bits in omega arith

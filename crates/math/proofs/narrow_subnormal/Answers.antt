@@ -1,5 +1,5 @@
 -- `narrow_subnormal` meets its contract: `nearest` rounds to the unit of the subnormals, and less than half a unit is nothing. Assumes nothing.
-use lib.Pow.{pow_pos, pow_mono}
+use lib.Pow.{pow_mono}
 use borrow.Author.Tests.{le-leb, lt-leb}
 use Rattle.math.proofs.Tests.{one_shl}
 use Rattle.math.specs.Steps.{narrow_bits}
@@ -7,10 +7,8 @@ use Prim.Native.Nat.{◌-◌, ◌≤◌}
 use native.Mathlib.Omega.{arith}
 use Rattle.math.proofs.narrow_subnormal.Goals as goal
 
-pub nearest-requires : goal.nearest-requires
-nearest-requires c = let k = 926 - c.args.e in
-    let h : k ≤ 62 = omega arith in
-    record { fact_1 = rw (one_shl k (omega arith)) (pow_pos k); fact_2 = rw (one_shl k (omega arith)) (pow_mono h); fact_3 = omega arith }
+pub nearest-requires-clause-fact_2 : goal.nearest-requires-clause-fact_2
+nearest-requires-clause-fact_2 c = let h : 926 - c.args.e ≤ 62 = omega arith in rw (one_shl (926 - c.args.e) (omega arith)) (pow_mono h)
 
 pub returns-then-e-ge873 : goal.returns-then-e-ge873
 unfolding narrow_bits

@@ -15,7 +15,7 @@ shape_of-out-then-g-total c = simp length-set (sending-long _ _ _ _ _ _ _ c.loop
 
 pub returns-then-g-total : goal.returns-then-g-total
 returns-then-g-total c = sending-ended _ _ _ _ _ _ _ c.loop-out.invariant.0 (omega (arith, c.loop-out-test.true)) _ _
-    (rw (c.narrow.ensures, c.sample_twice-s.ensures.0))
+    (rw (c.narrow.ensures, c.sample_twice-a.ensures.0))
     c.moved-g.ensures
 
 pub offset_bounds-out-i-in-loop-out : goal.offset_bounds-out-i-in-loop-out
@@ -33,11 +33,11 @@ shape_of-out-then-h-total c = simp (length-set, length-set) (sending-long _ _ _ 
 pub returns-then-h-total : goal.returns-then-h-total
 returns-then-h-total c = sending-ended _ _ _ _ _ _ _
     (sending-again _ _ _ _ _ _ _ c.loop-out.invariant.0 (omega (arith, c.loop-out-test.true)) _ _
-    (rw (c.narrow.ensures, c.sample_twice-s.ensures.0))
+    (rw (c.narrow.ensures, c.sample_twice-a.ensures.0))
     c.moved-g.ensures
     c.if-g-total.false)
     (simp length-set (omega (arith, c.loop-out-test.true))) _ _
-    (rw (c.narrow-in-loop-out.ensures, c.sample_twice-s.ensures.1))
+    (rw (c.narrow-in-loop-out.ensures, c.sample_twice-a.ensures.1))
     c.moved-h.ensures
 
 pub loop-out-smaller : goal.loop-out-smaller
@@ -47,11 +47,11 @@ pub loop-out-preserved : goal.loop-out-preserved
 loop-out-preserved c = (
   sending-again _ _ _ _ _ _ _
       (sending-again _ _ _ _ _ _ _ c.loop-out.invariant.0 (omega (arith, c.loop-out-test.true)) _ _
-      (rw (c.narrow.ensures, c.sample_twice-s.ensures.0))
+      (rw (c.narrow.ensures, c.sample_twice-a.ensures.0))
       c.moved-g.ensures
       c.if-g-total.false)
       (simp length-set (omega (arith, c.loop-out-test.true))) _ _
-      (rw (c.narrow-in-loop-out.ensures, c.sample_twice-s.ensures.1))
+      (rw (c.narrow-in-loop-out.ensures, c.sample_twice-a.ensures.1))
       c.moved-h.ensures
       c.if-h-total.false,
   simp (length-set, length-set) (omega (arith, c.loop-out-test.true)),
@@ -62,8 +62,8 @@ shape_of-out-then-i-out c = simp length-set (sending-long _ _ _ _ _ _ _ c.loop-o
 
 pub returns-then-i-out : goal.returns-then-i-out
 returns-then-i-out c = sending-ended _ _ _ _ _ _ _ c.loop-out.invariant.0 c.if-i-out.true _ _
-    (rw (c.narrow-then-i-out.ensures, c.next_sample-x.ensures.0))
-    c.next_sample-x.ensures.1
+    (rw (c.narrow-then-i-out.ensures, c.sample.ensures))
+    c.moved-f.ensures
 
 pub shape_of-out-else-i-out : goal.shape_of-out-else-i-out
 shape_of-out-else-i-out c = sending-long _ _ _ _ _ _ _ c.loop-out.invariant.0

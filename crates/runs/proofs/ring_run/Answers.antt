@@ -1,5 +1,6 @@
--- `ring_run` meets its contract, by what `run` ensures. Assumes nothing.
+-- `ring_run` meets its contract: what lies between two samples that the clock tells the same of agrees with them. Assumes nothing.
+use Rattle.runs.proofs.Runs.{one_gate}
 use Rattle.runs.proofs.ring_run.Goals as goal
 
 pub returns : goal.returns
-returns c = let R = c.run.ensures in record { some = R.some; fits = R.fits; ring = λ j l. (R.alike j l).0; gate = λ j l. (R.alike j l).1 }
+returns c = one_gate _ _ _ _ c.run.ensures

@@ -3,7 +3,7 @@ use Prim.Native.Nat.{◌≤◌, ◌<◌}
 use Rattle.runs.proofs.run.Given as goal
 
 abbrev pub invariant-loop-c : goal.invariant-loop-c
-invariant-loop-c l = (0 < l.most → 0 < l.c) × (l.c ≤ l.most)
+invariant-loop-c g l = (0 < l.most → 0 < l.c) × (l.c ≤ l.most)
 
 abbrev pub decreases-loop-c : goal.decreases-loop-c
-decreases-loop-c l = l.c
+decreases-loop-c g l = l.c

@@ -15,7 +15,7 @@ shape_of-out-then-t c = simp length-set (play-long _ _ _ _ _ c.loop-out.invarian
 
 pub returns-then-t : goal.returns-then-t
 returns-then-t c = play-ended _ _ _ _ _ c.loop-out.invariant.0 (omega (arith, c.loop-out-test.true)) _ _
-    (rw (c.narrow.ensures, c.sample_twice-v.ensures.0))
+    (rw (c.narrow.ensures, c.sample_twice-a.ensures.0))
     c.ticks-t.ensures
 
 pub offset_bounds-out-i-in-loop-out : goal.offset_bounds-out-i-in-loop-out
@@ -33,11 +33,11 @@ shape_of-out-then-u c = simp (length-set, length-set) (play-long _ _ _ _ _ c.loo
 pub returns-then-u : goal.returns-then-u
 returns-then-u c = play-ended _ _ _ _ _
     (play-again _ _ _ _ _ c.loop-out.invariant.0 (omega (arith, c.loop-out-test.true)) _ _
-    (rw (c.narrow.ensures, c.sample_twice-v.ensures.0))
+    (rw (c.narrow.ensures, c.sample_twice-a.ensures.0))
     c.ticks-t.ensures
     c.if-t.false)
     (simp length-set (omega (arith, c.loop-out-test.true))) _ _
-    (rw (c.narrow-in-loop-out.ensures, c.sample_twice-v.ensures.1))
+    (rw (c.narrow-in-loop-out.ensures, c.sample_twice-a.ensures.1))
     c.ticks-u.ensures
 
 pub loop-out-smaller : goal.loop-out-smaller
@@ -47,11 +47,11 @@ pub loop-out-preserved : goal.loop-out-preserved
 loop-out-preserved c = (
   play-again _ _ _ _ _
       (play-again _ _ _ _ _ c.loop-out.invariant.0 (omega (arith, c.loop-out-test.true)) _ _
-      (rw (c.narrow.ensures, c.sample_twice-v.ensures.0))
+      (rw (c.narrow.ensures, c.sample_twice-a.ensures.0))
       c.ticks-t.ensures
       c.if-t.false)
       (simp length-set (omega (arith, c.loop-out-test.true))) _ _
-      (rw (c.narrow-in-loop-out.ensures, c.sample_twice-v.ensures.1))
+      (rw (c.narrow-in-loop-out.ensures, c.sample_twice-a.ensures.1))
       c.ticks-u.ensures
       c.if-u.false,
   simp (length-set, length-set) (omega (arith, c.loop-out-test.true)),
