@@ -1,5 +1,4 @@
 -- Laws on queues.
-pub mod Shift
 pub mod Waiting
 pub mod Lists
 pub mod Reading

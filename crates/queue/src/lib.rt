@@ -1,23 +1,19 @@
-// Bytes that wait, oldest first, up to 256 of them: an array with a length. A byte that leaves lets
-// the others move up, so that two queues in which the same bytes wait are made alike.
+// Bytes that wait, oldest first, up to 256 of them. A byte that leaves lets the others move up, so that
+// two queues in which the same bytes wait are made alike.
 #![tactic(auto)]
 
 ghost use Rattle.std.specs.Prelude.{◌≡◌, ◌++◌, ◌≤◌, drop};
-ghost use Rattle.queue.specs.Queue.{waiting, empty_queue, is_full, is_empty, pushed, taken_if, oldest, popped, queue_ok};
+ghost use Rattle.queue.specs.Queue.{waiting, empty_queue, is_full, is_empty, pushed, push_answer, taken_if, oldest, first_out, popped, queue_ok};
+
+use refusal::Refusal;
 
 const PLACES: usize = 256;
 
+// An array with a length beside it: C lends one, with any number for its length, and `ok` has to tell.
 #[derive(Clone, Copy)]
 pub struct Queue {
     pub bytes: [u8; 256],
     pub len: usize,
-}
-
-// The queue after a byte came, and whether it was full: then the byte is not in it.
-#[derive(Clone, Copy)]
-pub struct Pushed {
-    pub queue: Queue,
-    pub full: bool,
 }
 
 impl Queue {
@@ -30,69 +26,60 @@ impl Queue {
         }
     }
 
-    pub fn push(self, byte: u8) -> Pushed
-        ensures value { result ≡ pushed self byte }
-        ensures queue_value { waiting result.queue ≡ waiting self ++ taken_if result.full byte }
+    // One byte more, the newest. A full queue stays as it is.
+    #[tactic(auto, unfolding(crate::specs::Queue::pushed))]
+    pub fn push(&mut self, byte: u8) -> Result<(), Refusal>
+        ensures value { self.new ≡ pushed self.old byte }
+        ensures answer { result ≡ push_answer (is_full self.old) }
+        ensures queue_value { waiting self.new ≡ waiting self.old ++ taken_if (is_full self.old) byte }
     {
-        let at = self.len;
-        if at >= PLACES {
-            return Pushed {
-                queue: self,
-                full: true,
-            };
+        if self.is_full() {
+            return Err(Refusal::QueueFull);
         }
-        let mut queue = self;
-        queue.bytes[at] = byte;
-        queue.len = at + 1;
-        Pushed { queue, full: false }
+        self.bytes[self.len] = byte;
+        self.len += 1;
+        Ok(())
     }
 
-    pub fn is_full(self) -> bool
-        ensures { result ≡ is_full self }
+    pub fn is_full(&self) -> bool
+        ensures { result ≡ is_full self.now }
     {
         self.len >= PLACES
     }
 
-    pub fn is_empty(self) -> bool
-        ensures { result ≡ is_empty self }
+    pub fn is_empty(&self) -> bool
+        ensures { result ≡ is_empty self.now }
     {
         self.len == 0
     }
 
-    // The byte that has waited longest; 0 if none waits.
-    pub fn oldest(self) -> u8
-        ensures { result ≡ oldest self }
+    // The byte that has waited longest, if one waits.
+    pub fn oldest(&self) -> Option<u8>
+        ensures { result ≡ first_out self.now }
     {
-        if self.len == 0 {
-            return 0;
+        if self.is_empty() {
+            return None;
         }
-        self.bytes[0]
+        Some(self.bytes[0])
     }
 
-    // The queue without it.
-    pub fn pop(self) -> Queue
-        ensures value { result ≡ popped self }
-        ensures result_value { self.len ≤ 256 → waiting result ≡ drop 1 (waiting self) }
+    // It leaves.
+    pub fn pop(&mut self) -> Option<u8>
+        ensures value { self.new ≡ popped self.old }
+        ensures byte { result ≡ first_out self.old }
+        ensures result_value { self.old.len ≤ 256 → waiting self.new ≡ drop 1 (waiting self.old) }
     {
-        if self.len == 0 {
-            return self;
-        }
-        let mut bytes = self.bytes;
-        let mut i: usize = 0;
-        while i < PLACES - 1 {
-            bytes[i] = bytes[i + 1];
-            i += 1;
-        }
-        bytes[PLACES - 1] = 0;
-        Queue {
-            bytes,
-            len: self.len - 1,
-        }
+        let byte = self.oldest()?;
+        self.bytes.rotate_left(1);
+        self.bytes[PLACES - 1] = 0;
+        self.len -= 1;
+        Some(byte)
     }
 
     // No more than 256 wait.
-    pub fn ok(self) -> bool
-        ensures { result ≡ queue_ok self }
+    #[tactic(auto, unfolding(crate::specs::Queue::queue_ok))]
+    pub fn ok(&self) -> bool
+        ensures { result ≡ queue_ok self.now }
     {
         self.len <= PLACES
     }

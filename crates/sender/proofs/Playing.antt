@@ -15,7 +15,6 @@ use Rattle.math.specs.Narrow.{narrowed}
 use Rattle.fsk.specs.Modulator.{modulator_sample}
 use Rattle.sender.specs.declared.Sender.{Sender}
 use Rattle.sender.specs.declared.Sending.{Sending}
-use Rattle.sender.specs.declared.Played.{Played}
 use Rattle.sender.specs.Sender.{ticked, ready, sample_next, next}
 use Rattle.sender.specs.Wave.{after, samples, ticks, tone_samples, PlayedIs}
 use Rattle.sender.proofs.Frames.{ready-rest}
@@ -67,7 +66,7 @@ module _ (s₀ : Sender) (was : List Float) where
       went : t ≡ ticks (i + 1) s₀
       went = rw (et, add-one, ticks-suc, P.sender)
 
-      pub play-ended : PlayedIs s₀ was (set out i v) (record { sender = t; written = i + 1 })
+      pub play-ended : PlayedIs s₀ t was (set out i v) (i + 1)
       play-ended =
           let h = play-long in
           record { count = omega arith; some = λ _. omega arith; buffer = written; sender = went; between = below }
@@ -83,7 +82,7 @@ module _ (s₀ : Sender) (was : List Float) where
           }
 
     -- the part is full
-    pub play-full : length out ≤ i → PlayedIs s₀ was out (record { sender = s; written = i })
+    pub play-full : length out ≤ i → PlayedIs s₀ s was out i
     play-full l =
         let h = play-long in
         record {
@@ -131,24 +130,23 @@ module _ (x₀ : Sending) (was : List Float) where
     fill-long = ap length F.buffer ∙ simp (length-append, samples-length, length-drop) (omega (arith, F.count))
 
     -- the rest was lent for the bit that y is ready for
-    module _ (y : Sending) (ys : List Float) (p : Played) (l : at < length out) (ey : y ≡ ready x) (P : PlayedIs y.sender (take (length out - at) (drop at out)) ys p) where
+    module _ (y : Sending) (ys : List Float) (left : Sender) (w : ℕ) (l : at < length out) (ey : y ≡ ready x) (P : PlayedIs y.sender left (take (length out - at) (drop at out)) ys w) where
       rest : length (take (length out - at) (drop at out)) ≡ length was - at
       rest = let e = fill-long in simp (length-take, length-drop) (omega arith)
 
-      pub moves : 0 < p.written
+      pub moves : 0 < w
       moves = let e = fill-long in P.some (omega (arith, rest))
 
-      pub fits_in : at + p.written ≤ length was
+      pub fits_in : at + w ≤ length was
       fits_in = let e = fill-long in omega (arith, rest, P.count)
 
-      bit : (samples p.written x ≡ tone_samples p.written y.sender) × (after p.written x ≡ gone p.written y)
+      bit : (samples w x ≡ tone_samples w y.sender) × (after w x ≡ gone w y)
       bit =
-          subst (λ (z : Sending). (samples p.written x ≡ tone_samples p.written z.sender) × (after p.written x ≡ gone p.written z)) (sym ey)
-          (ran p.written x moves (subst (λ (z : Sending). (j : ℕ) → 0 < j → j < p.written → (ticks j z.sender).edge ≡ false) ey P.between))
+          subst (λ (z : Sending). (samples w x ≡ tone_samples w z.sender) × (after w x ≡ gone w z)) (sym ey)
+          (ran w x moves (subst (λ (z : Sending). (j : ℕ) → 0 < j → j < w → (ticks j z.sender).edge ≡ false) ey P.between))
 
-      pub fill-again : Filling x₀ was (take at out ++ (ys ++ drop (length out - at) (drop at out))) (record { sender = p.sender; queue = y.queue }) (at + p.written)
+      pub fill-again : Filling x₀ was (take at out ++ (ys ++ drop (length out - at) (drop at out))) (record { sender = left; queue = y.queue }) (at + w)
       fill-again =
-          let w = p.written in
           let ed : drop at out ≡ drop at was = ap (drop at) F.buffer ∙ drop_at (samples at x₀) (drop at was) at (samples-length at x₀) in
           let et : take at out ≡ samples at x₀ = ap (take at) F.buffer ∙ take_at (samples at x₀) (drop at was) at (samples-length at x₀) in
           let el : length (drop at out) ≡ length out - at = length-drop at out in

@@ -110,7 +110,7 @@ next x = record { sender = ticked (ready x).sender; queue = (ready x).queue }
 -- ---- a byte is queued
 -- "A new call queues a byte in any state": the sender stays as it is
 unfoldable pub queued : Sending → ℕ → Sending
-queued x byte = record { sender = x.sender; queue = (pushed x.queue byte).queue }
+queued x byte = record { sender = x.sender; queue = pushed x.queue byte }
 
 -- "dial, answer and hang-up empty the queue"
 abbrev pub emptied : Sending → Sending

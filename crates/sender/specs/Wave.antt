@@ -4,7 +4,6 @@ use Rattle.math.specs.Narrow.{narrowed}
 use Rattle.fsk.specs.Modulator.{modulator_sample}
 use Rattle.sender.specs.declared.Sender.{Sender}
 use Rattle.sender.specs.declared.Sending.{Sending}
-use Rattle.sender.specs.declared.Played.{Played}
 use Rattle.sender.specs.Sender.{ticked, sample_next, next}
 
 -- after k samples
@@ -26,10 +25,11 @@ unfoldable pub tone_samples : ℕ → Sender → List Float
 tone_samples zero s = []
 tone_samples (suc k) s = narrowed (modulator_sample s.modulator) ∷ tone_samples k (ticked s)
 
--- what their writer promises of a part that held `was` and now holds `is`. It stops where the symbol ends, so how much it wrote is its own to say
-pub record PlayedIs (s : Sender) (was is : List Float) (p : Played) : Type 0 where
-  pub count : p.written ≤ length was
-  pub some : 0 < length was → 0 < p.written
-  pub buffer : is ≡ tone_samples p.written s ++ drop p.written was
-  pub sender : p.sender ≡ ticks p.written s
-  pub between : (j : ℕ) → 0 < j → j < p.written → (ticks j s).edge ≡ false
+-- what their writer promises of a part that held `was` and now holds `is`. It stops where the symbol ends,
+-- so how much it wrote is its own to say. `left` is the sender after it
+pub record PlayedIs (s left : Sender) (was is : List Float) (written : ℕ) : Type 0 where
+  pub count : written ≤ length was
+  pub some : 0 < length was → 0 < written
+  pub buffer : is ≡ tone_samples written s ++ drop written was
+  pub sender : left ≡ ticks written s
+  pub between : (j : ℕ) → 0 < j → j < written → (ticks j s).edge ≡ false

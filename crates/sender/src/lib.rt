@@ -17,7 +17,8 @@ const SPACE: f64 = 1070.0;
 const FRAME_BITS: u8 = 10;
 
 // The byte is the one whose frame is being sent, `begun` how many of its ten bits are begun: 0 if
-// there is none. At an edge the next sample's bit is still to be chosen.
+// there is none, a number and no Option, since C lends a sender in which it may be any. At an edge the
+// next sample's bit is still to be chosen.
 #[derive(Clone, Copy)]
 pub struct Sender {
     pub modulator: Modulator,
@@ -33,29 +34,18 @@ pub struct Sending {
     pub queue: Queue,
 }
 
-// The sender after the samples of one bit, and how many they are.
-#[derive(Clone, Copy)]
-pub struct Played {
-    pub sender: Sender,
-    pub written: usize,
-}
-
 fn is_unfinished(begun: u8) -> bool
     ensures { result ≡ unfinished begun }
 {
-    (begun > 0) & (begun < FRAME_BITS)
+    begun > 0 && begun < FRAME_BITS
 }
 
 // Bit `index` of a byte's frame; past the last one the line is at mark.
 fn frame_bit(byte: u8, index: u8) -> bool
     ensures { result ≡ frame_bit byte index }
 {
-    let at = index as usize;
-    if at >= 10 {
-        return true;
-    }
     let bits = frame::frame_byte(byte);
-    bits[at]
+    bits.get(usize::from(index)).copied().unwrap_or(true)
 }
 
 impl Sender {
@@ -74,12 +64,11 @@ impl Sender {
     fn sends(self, bit: bool, byte: u8, begun: u8) -> Sender
         ensures { result ≡ tuned self bit byte begun }
     {
-        let m = self.modulator;
         Sender {
-            modulator: m.set_bit(MARK, SPACE, bit),
+            modulator: self.modulator.set_bit(MARK, SPACE, bit),
             byte,
             begun,
-            edge: self.edge,
+            ..self
         }
     }
 
@@ -97,51 +86,40 @@ impl Sender {
         }
     }
 
-    // The samples of one bit, until its symbol ends or the part is full; two a turn, so that their
-    // sines share the lanes of one division.
-    fn play(self, out: &mut [f32]) -> Played
-        ensures { PlayedIs self out.old out.new result }
+    // The samples of one bit, until its symbol ends or the part is full, and how many they are. Two a
+    // turn, so that their sines share the lanes of one division; a chunk of two would end with the part
+    // and not with the symbol, so the place is counted here, and is the answer.
+    fn play(&mut self, out: &mut [f32]) -> usize
+        ensures { PlayedIs self.old self.new out.old out.new result }
     {
-        let mut s = self;
-        let mut i: usize = 0;
-        while out.len() - i > 1 {
+        let mut s = *self;
+        let mut written: usize = 0;
+        while out.len() - written > 1 {
             let t = s.ticks();
-            let first = s.modulator;
-            let second = t.modulator;
-            let (a, b) = fsk::sample_twice(first, second);
-            out[i] = math::narrow(a);
-            i += 1;
+            let (a, b) = fsk::sample_twice(s.modulator, t.modulator);
+            out[written] = math::narrow(a);
+            written += 1;
             if t.edge {
-                return Played {
-                    sender: t,
-                    written: i,
-                };
+                *self = t;
+                return written;
             }
             let u = t.ticks();
-            out[i] = math::narrow(b);
-            i += 1;
+            out[written] = math::narrow(b);
+            written += 1;
             if u.edge {
-                return Played {
-                    sender: u,
-                    written: i,
-                };
+                *self = u;
+                return written;
             }
             s = u;
         }
-        if i < out.len() {
-            let last = s.ticks();
-            let m = s.modulator;
-            out[i] = math::narrow(m.sample());
-            let end = i + 1;
-            return Played {
-                sender: last,
-                written: end,
-            };
+        if written < out.len() {
+            out[written] = math::narrow(s.modulator.sample());
+            written += 1;
+            *self = s.ticks();
+            return written;
         }
-        Played {
-            sender: s,
-            written: i,
-        }
+        *self = s;
+        written
     }
 }
 
@@ -156,27 +134,22 @@ impl Sending {
     }
 
     // A byte more waits; a full queue stays as it is.
+    #[tactic(auto, unfolding(crate::specs::Sender::queued))]
     pub fn queue_byte(self, byte: u8) -> Sending
         ensures { result ≡ queued self byte }
     {
-        let s = self.sender;
-        let q = self.queue;
-        let p = q.push(byte);
-        let longer = p.queue;
-        Sending {
-            sender: s,
-            queue: longer,
-        }
+        let mut queue = self.queue;
+        let _ = queue.push(byte);
+        Sending { queue, ..self }
     }
 
     // No byte waits any more.
     pub fn emptied(self) -> Sending
         ensures { result ≡ emptied self }
     {
-        let s = self.sender;
         Sending {
-            sender: s,
             queue: Queue::new(),
+            ..self
         }
     }
 
@@ -184,51 +157,41 @@ impl Sending {
     pub fn raised(self, rate: u32) -> Sending
         ensures { result ≡ raised self rate }
     {
-        let q = self.queue;
         Sending {
             sender: Sender::new(rate),
-            queue: q,
+            ..self
         }
     }
 
     // At an edge: the next bit of an unfinished frame, else the first of a waiting byte's, else mark.
+    #[tactic(auto, unfolding(crate::specs::Sender::chosen, crate::specs::Sender::choice_of))]
     fn chooses(self) -> Sending
         ensures { result ≡ chosen self }
     {
-        let s = self.sender;
-        let q = self.queue;
-        if is_unfinished(s.begun) {
-            let bit = frame_bit(s.byte, s.begun);
-            let begun = s.begun + 1;
-            return Sending {
-                sender: s.sends(bit, s.byte, begun),
-                queue: q,
-            };
-        }
-        if q.is_empty() {
-            return Sending {
-                sender: s.sends(true, s.byte, 0),
-                queue: q,
-            };
-        }
-        let byte = q.oldest();
-        let first = frame_bit(byte, 0);
-        Sending {
-            sender: s.sends(first, byte, 1),
-            queue: q.pop(),
-        }
+        let mut queue = self.queue;
+        let Sender { byte, begun, .. } = self.sender;
+        let sender = if is_unfinished(begun) {
+            self.sender.sends(frame_bit(byte, begun), byte, begun + 1)
+        } else if let Some(first) = queue.pop() {
+            self.sender.sends(frame_bit(first, 0), first, 1)
+        } else {
+            self.sender.sends(true, byte, 0)
+        };
+        Sending { sender, queue }
     }
 
+    #[tactic(auto, unfolding(crate::specs::Sender::ready))]
     fn readied(self) -> Sending
         ensures { result ≡ ready self }
     {
         if self.sender.edge {
-            return self.chooses();
+            self.chooses()
+        } else {
+            self
         }
-        self
     }
 
-    // Fills the buffer with the samples that follow, bit by bit.
+    // Fills the buffer with the samples that follow, bit by bit: each bit says how many it has.
     pub fn fill(self, out: &mut [f32]) -> Sending
         ensures out_after { out.new ≡ samples (length out.old) self }
         ensures value { result ≡ after (length out.old) self }
@@ -236,13 +199,8 @@ impl Sending {
         let mut x = self;
         let mut at: usize = 0;
         while at < out.len() {
-            let y = x.readied();
-            let s = y.sender;
-            let q = y.queue;
-            let p = s.play(&mut out[at..]);
-            let sender = p.sender;
-            at += p.written;
-            x = Sending { sender, queue: q };
+            x = x.readied();
+            at += x.sender.play(&mut out[at..]);
         }
         x
     }

@@ -40,11 +40,11 @@ popped-few q l = go (is_empty q)
     go true = l
     go false = omega arith
 
-pushed-few : (q : Queue) (b : ℕ) → q.len ≤ 256 → (pushed q b).queue.len ≤ 256
+pushed-few : (q : Queue) (b : ℕ) → q.len ≤ 256 → (pushed q b).len ≤ 256
 unfolding pushed
 pushed-few q b l = go (is_full q) refl
   where
-    go : (t : Bool) → is_full q ≡ t → (pushed_if t q b).queue.len ≤ 256
+    go : (t : Bool) → is_full q ≡ t → (pushed_if t q b).len ≤ 256
     go true e = l
     go false e = let room = leb-false 256 q.len e in omega arith
 

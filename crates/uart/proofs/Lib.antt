@@ -1,5 +1,4 @@
 -- Laws on the chip's text, its tables and its calls.
-pub mod Tables
 pub mod Text
 pub mod Waiting
 pub mod Unchanged

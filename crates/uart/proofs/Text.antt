@@ -1,6 +1,5 @@
 -- Bytes that come one after the other: a part and then the rest, and one more of a slice. Assumes nothing.
-use Prim.Native.Nat.{ℕ, ◌+◌, ◌-◌, ◌≤◌, ◌<◌}
-use native.Mathlib.Nat.{sub-zero}
+use Prim.Native.Nat.{ℕ, ◌+◌, ◌≤◌, ◌<◌}
 use native.Mathlib.Omega.{arith}
 use borrow.Author.Tests.{le-leb}
 use native.Mathlib.Numerals.{add-one}
@@ -62,10 +61,10 @@ module _ (code : Code) (s12 number n : ℕ) (was left : List ℕ) (known : numbe
   pub line-within : n ≤ length left
   line-within = rw (n-is, whole, length-append) (omega arith)
 
-  pub line-text : take (n - 0) left ≡ text_of number s12
-  line-text = rw (sub-zero, n-is, whole) (take-append_seam (text_of number s12) _)
+  pub line-text : take n left ≡ text_of number s12
+  line-text = rw (n-is, whole) (take-append_seam (text_of number s12) _)
 
-  pub line-comes : (x y z w : Inbox) → y ≡ received x (take (n - 0) left) → z ≡ came y 13 → w ≡ came z 10 → w ≡ received x (closed code s12)
+  pub line-comes : (x y z w : Inbox) → y ≡ received x (take n left) → z ≡ came y 13 → w ≡ came z 10 → w ≡ received x (closed code s12)
   line-comes x y z w e f g =
       let text : y ≡ received x (text_of (number_of code) s12) = e ∙ ap (received x) (line-text ∙ ap (λ (k : ℕ). text_of k s12) known) in
       g ∙ ap (λ (i : Inbox). came i 10) (f ∙ ap (λ (i : Inbox). came i 13) text)

@@ -1,7 +1,7 @@
 -- 02, E13: "Reply text, a lapse's too, each line closed by CR and LF, waits in 256 places for the receive register; where it would run over,
 -- its last bytes are lost and overrun is set."
 use Rattle.std.specs.Prelude.{ℕ, false, ◌||◌, List, [], ◌∷◌, ◌++◌}
-use Rattle.queue.specs.Queue.{empty_queue, pushed, popped}
+use Rattle.queue.specs.Queue.{empty_queue, is_full, pushed, popped}
 use Rattle.reply.specs.declared.Code.{Code}
 use Rattle.reply.specs.declared.Reply.{Reply}
 use Rattle.reply.specs.declared.Reply.TheVariants.{None, One, Two}
@@ -23,7 +23,7 @@ empty_inbox = record { queue = empty_queue; overrun = false }
 
 -- one byte more; where no place is left it is lost, and overrun is set
 abbrev pub came : Inbox → ℕ → Inbox
-came x byte = record { queue = (pushed x.queue byte).queue; overrun = x.overrun || (pushed x.queue byte).full }
+came x byte = record { queue = pushed x.queue byte; overrun = x.overrun || is_full x.queue }
 
 unfoldable pub received : Inbox → List ℕ → Inbox
 received x [] = x

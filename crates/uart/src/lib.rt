@@ -2,11 +2,11 @@
 // the receive register. Every call takes the chip that the one before returned.
 #![tactic(auto)]
 
-ghost use Rattle.std.specs.Prelude.{◌≡◌, true, leb, length};
+ghost use Rattle.std.specs.Prelude.{◌≡◌, ◌<◌, true, leb, length};
 ghost use Rattle.at.specs.Processor.{command_mode};
 ghost use Rattle.set.specs.Set as set;
 ghost use Rattle.uart.specs.Inbox.{closed, text_of_reply, came, received};
-ghost use Rattle.uart.specs.Registers.{first_of, identification, line_status, modem_status, differ, settled, with_enable, stored, value_at};
+ghost use Rattle.uart.specs.Registers.{bit, address_of, RegisterAt, identification, line_status, modem_status, settled, with_enable, stored, value_at};
 ghost use Rattle.uart.specs.Chip.{started, sound, dcd, moved, value_of, chip_after, text_read, identified, line_status_read, modem_status_read, read_if, read, transmitted, written, write_if, write, outbox_if, outbox, lapse_taken, lapsed, fill_taken, filled, buffer};
 
 use keys::Key;
@@ -36,6 +36,19 @@ pub struct Registers {
 pub struct Inbox {
     pub queue: Queue,
     pub overrun: bool,
+}
+
+// The eight registers, each at the address of its place here.
+#[derive(Clone, Copy)]
+enum Register {
+    Data,
+    Enable,
+    Identification,
+    LineControl,
+    ModemControl,
+    LineStatus,
+    ModemStatus,
+    Scratch,
 }
 
 #[derive(Clone, Copy)]
@@ -72,126 +85,116 @@ pub struct Fill {
     pub key: Option<Key>,
 }
 
-impl Inbox {
-    fn byte(self, byte: u8) -> Inbox
-        ensures { result ≡ came self byte }
-    {
-        let queue = self.queue;
-        let p = queue.push(byte);
-        let next = p.queue;
-        Inbox {
-            queue: next,
-            overrun: self.overrun | p.full,
+impl TryFrom<u8> for Register {
+    type Error = Refusal;
+
+    ghost try_from_gives = { RegisterAt };
+
+    fn try_from(address: u8) -> Result<Register, Refusal> {
+        match address {
+            0 => Ok(Register::Data),
+            1 => Ok(Register::Enable),
+            2 => Ok(Register::Identification),
+            3 => Ok(Register::LineControl),
+            4 => Ok(Register::ModemControl),
+            5 => Ok(Register::LineStatus),
+            6 => Ok(Register::ModemStatus),
+            7 => Ok(Register::Scratch),
+            _ => Err(Refusal::Address),
         }
     }
+}
 
-    fn bytes(self, text: &[u8]) -> Inbox
-        ensures { result ≡ received self text.now }
+impl Inbox {
+    // One byte more; where no place is left it is lost.
+    fn byte(&mut self, byte: u8)
+        ensures { self.new ≡ came self.old byte }
     {
-        let mut inbox = self;
-        let mut at: usize = 0;
-        while at < text.len() {
-            let byte = text[at];
-            inbox = inbox.byte(byte);
-            at += 1;
+        self.overrun |= self.queue.push(byte).is_err();
+    }
+
+    fn bytes(&mut self, text: &[u8])
+        ensures { self.new ≡ received self.old text.now }
+    {
+        for byte in text {
+            self.byte(*byte);
         }
-        inbox
     }
 
     // A line of a reply, closed by CR and LF.
-    fn line(self, code: Code, s12: u8) -> Inbox
-        ensures { result ≡ received self (closed code s12) }
+    fn line(&mut self, code: Code, s12: u8)
+        ensures { self.new ≡ received self.old (closed code s12) }
     {
-        let number = code.number();
-        let mut text: [u8; 32] = [0; 32];
-        let n = reply::write_reply(number, s12, &mut text);
-        let from: usize = 0;
-        let inbox = self.bytes(&text[from..n]);
-        let inbox = inbox.byte(13);
-        inbox.byte(10)
+        let mut text = [0u8; 32];
+        let n = reply::write_reply(code.number(), s12, &mut text);
+        self.bytes(&text[..n]);
+        self.byte(b'\r');
+        self.byte(b'\n');
     }
 
-    fn take(self, reply: Reply, s12: u8) -> Inbox
-        ensures { result ≡ received self (text_of_reply reply s12) }
+    #[tactic(auto, unfolding(crate::specs::Inbox::text_of_reply, crate::specs::Inbox::received))]
+    fn take(&mut self, reply: Reply, s12: u8)
+        ensures { self.new ≡ received self.old (text_of_reply reply s12) }
     {
         match reply {
-            Reply::None => self,
+            Reply::None => {}
             Reply::One(code) => self.line(code, s12),
             Reply::Two(first, second) => {
-                let inbox = self.line(first, s12);
-                inbox.line(second, s12)
+                self.line(first, s12);
+                self.line(second, s12);
             }
         }
     }
 }
 
-fn differs(a: bool, b: bool) -> bool
-    ensures { result ≡ differ a b }
+// The bits of interrupt enable, by their weights.
+const TEXT: u8 = 1;
+
+const TRANSMITTER_EMPTY: u8 = 2;
+
+const LINE_STATUS: u8 = 4;
+
+const MODEM_STATUS: u8 = 8;
+
+// Whether the bit of this weight is set.
+fn is_set(value: u8, weight: u8) -> bool
+    requires { 0 < weight }
+    ensures { result ≡ bit weight value }
 {
-    if a {
-        return !b;
-    }
-    b
+    value / weight % 2 == 1
 }
 
-fn first(line: bool, text: bool, empty: bool, modem: bool) -> u8
-    ensures { result ≡ first_of line text empty modem }
-{
-    if line {
-        return 6;
-    }
-    if text {
-        return 4;
-    }
-    if empty {
-        return 2;
-    }
-    if modem {
-        return 0;
-    }
-    1
-}
-
+#[tactic(auto, unfolding(crate::specs::Registers::line_status))]
 fn line_status(overrun: bool, waits: bool) -> u8
     ensures { result ≡ line_status overrun waits }
 {
-    if overrun {
-        if waits {
-            return 99;
-        }
-        return 98;
-    }
-    if waits {
-        return 97;
-    }
-    96
+    96 + u8::from(waits) + 2 * u8::from(overrun)
 }
 
+#[tactic(auto, unfolding(crate::specs::Registers::modem_status))]
 fn modem_status(delta: bool, dcd: bool) -> u8
     ensures { result ≡ modem_status delta dcd }
 {
-    if delta {
-        if dcd {
-            return 184;
-        }
-        return 56;
-    }
-    if dcd {
-        return 176;
-    }
-    48
+    48 + 8 * u8::from(delta) + 128 * u8::from(dcd)
 }
 
 impl Registers {
+    // The first that is enabled and is to be given.
+    #[tactic(auto, unfolding(crate::specs::Registers::identification))]
     fn identification(self, overrun: bool, waits: bool) -> u8
         ensures { result ≡ identification self.enable overrun waits self.pending self.delta }
     {
-        let enable = self.enable;
-        let line = (enable / 4 % 2 == 1) & overrun;
-        let text = (enable / 1 % 2 == 1) & waits;
-        let empty = (enable / 2 % 2 == 1) & self.pending;
-        let modem = (enable / 8 % 2 == 1) & self.delta;
-        first(line, text, empty, modem)
+        if is_set(self.enable, LINE_STATUS) && overrun {
+            6
+        } else if is_set(self.enable, TEXT) && waits {
+            4
+        } else if is_set(self.enable, TRANSMITTER_EMPTY) && self.pending {
+            2
+        } else if is_set(self.enable, MODEM_STATUS) && self.delta {
+            0
+        } else {
+            1
+        }
     }
 
     // The flag handed in last, and whether DCD changed.
@@ -200,19 +203,18 @@ impl Registers {
     {
         let was = control::heard_in(before, self.flag);
         let is = control::heard_in(after, flag);
-        let changed = differs(was, is);
         Registers {
             flag,
-            delta: self.delta | changed,
+            delta: self.delta | (was != is),
             ..self
         }
     }
 
+    #[tactic(auto, unfolding(crate::specs::Registers::with_enable))]
     fn with_enable(self, value: u8) -> Registers
         ensures { result ≡ with_enable self value }
     {
-        let old = self.enable;
-        let rises = !(old / 2 % 2 == 1) & (value / 2 % 2 == 1);
+        let rises = !is_set(self.enable, TRANSMITTER_EMPTY) & is_set(value, TRANSMITTER_EMPTY);
         Registers {
             enable: value % 16,
             pending: self.pending | rises,
@@ -220,52 +222,56 @@ impl Registers {
         }
     }
 
-    // A write to an address from 1 to 7.
-    fn store(self, address: u8, value: u8) -> Registers
-        ensures { result ≡ stored self address value }
+    // A write to a register that types nothing.
+    #[tactic(auto, unfolding(crate::specs::Registers::stored))]
+    fn store(self, register: Register, value: u8) -> Registers
+        ensures { result ≡ stored self (address_of register) value }
     {
-        match address {
-            1 => self.with_enable(value),
-            3 => Registers {
+        match register {
+            Register::Enable => self.with_enable(value),
+            Register::LineControl => Registers {
                 line: value,
                 ..self
             },
-            4 => Registers {
+            Register::ModemControl => Registers {
                 modem: value % 32,
                 ..self
             },
-            7 => Registers {
+            Register::Scratch => Registers {
                 scratch: value,
                 ..self
             },
-            _ => self,
+            Register::Data
+            | Register::Identification
+            | Register::LineStatus
+            | Register::ModemStatus => self,
         }
     }
 
-    fn value(self, oldest: u8, waits: bool, overrun: bool, dcd: bool, address: u8) -> u8
-        ensures { result ≡ value_at self oldest waits overrun dcd address }
+    #[tactic(auto, unfolding(crate::specs::Registers::value_at))]
+    fn value(self, oldest: u8, waits: bool, overrun: bool, dcd: bool, register: Register) -> u8
+        ensures { result ≡ value_at self oldest waits overrun dcd (address_of register) }
     {
-        match address {
-            0 => oldest,
-            1 => self.enable % 16,
-            2 => self.identification(overrun, waits),
-            3 => self.line,
-            4 => self.modem % 32,
-            5 => line_status(overrun, waits),
-            6 => modem_status(self.delta, dcd),
-            7 => self.scratch,
-            _ => 0,
+        match register {
+            Register::Data => oldest,
+            Register::Enable => self.enable % 16,
+            Register::Identification => self.identification(overrun, waits),
+            Register::LineControl => self.line,
+            Register::ModemControl => self.modem % 32,
+            Register::LineStatus => line_status(overrun, waits),
+            Register::ModemStatus => modem_status(self.delta, dcd),
+            Register::Scratch => self.scratch,
         }
     }
 }
 
 impl Chip {
     // A chip as after master reset, with a fresh set.
+    #[tactic(auto, unfolding(crate::specs::Chip::started))]
     pub fn new(rate: u32) -> Start
         ensures { result ≡ started rate }
     {
         let made = Set::new(rate);
-        let set = made.set;
         let registers = Registers {
             enable: 0,
             line: 0,
@@ -275,14 +281,13 @@ impl Chip {
             flag: false,
             delta: false,
         };
-        let queue = Queue::new();
         let inbox = Inbox {
-            queue,
+            queue: Queue::new(),
             overrun: false,
         };
         Start {
             chip: Chip {
-                set,
+                set: made.set,
                 registers,
                 inbox,
             },
@@ -291,154 +296,118 @@ impl Chip {
     }
 
     // A sound set, and no more than 256 bytes of text waiting.
+    #[tactic(auto, unfolding(crate::specs::Chip::sound))]
     pub fn sound(self) -> bool
         ensures { result ≡ sound self }
     {
-        let set = self.set;
-        let inbox = self.inbox;
-        let queue = inbox.queue;
-        set.sound() & queue.ok()
+        self.set.sound() & self.inbox.queue.ok()
     }
 
     // DCD: the flag last handed in, false in Idle.
     pub fn dcd(self) -> bool
         ensures { result ≡ dcd self }
     {
-        let set = self.set;
-        let state = set.state();
-        control::heard_in(state, self.registers.flag)
+        control::heard_in(self.set.state(), self.registers.flag)
     }
 
     // The plain readers of the set inside.
     pub fn in_command_mode(self) -> bool
         ensures { result ≡ command_mode self.set.processor }
     {
-        let set = self.set;
-        set.in_command_mode()
+        self.set.in_command_mode()
     }
 
     pub fn state(self) -> SessionState
         ensures { result ≡ self.set.session.state }
     {
-        let set = self.set;
-        set.state()
+        self.set.state()
     }
 
     pub fn stage(self) -> u8
         ensures { result ≡ self.set.session.shown }
     {
-        let set = self.set;
-        set.stage()
+        self.set.stage()
     }
 
     pub fn m(self) -> u32
         ensures { result ≡ self.set.session.m }
     {
-        let set = self.set;
-        set.m()
+        self.set.m()
     }
 
     // The set moved on, with a reply, and with the flag last handed in.
     fn moved(self, set: Set, reply: Reply, flag: bool) -> Chip
         ensures { result ≡ moved self set reply flag }
     {
-        let old = self.set;
-        let registers = self.registers;
-        let inbox = self.inbox;
-        let before = old.state();
-        let after = set.state();
-        let next = registers.settle(before, after, flag);
-        let text = inbox.take(reply, set.s12());
+        let mut inbox = self.inbox;
+        inbox.take(reply, set.s12());
         Chip {
             set,
-            registers: next,
-            inbox: text,
+            registers: self.registers.settle(self.set.state(), set.state(), flag),
+            inbox,
         }
     }
 
-    fn value(self, address: u8) -> u8
-        ensures { result ≡ value_of self address }
+    fn value(self, register: Register) -> u8
+        ensures { result ≡ value_of self (address_of register) }
     {
-        let registers = self.registers;
-        let inbox = self.inbox;
-        let queue = inbox.queue;
-        let oldest = queue.oldest();
-        let waits = !queue.is_empty();
-        let dcd = self.dcd();
-        registers.value(oldest, waits, inbox.overrun, dcd, address)
+        let Inbox { queue, overrun } = self.inbox;
+        let oldest = queue.oldest().unwrap_or(0);
+        self.registers
+            .value(oldest, !queue.is_empty(), overrun, self.dcd(), register)
     }
 
     fn text_read(self) -> Chip
         ensures { result ≡ text_read self }
     {
-        let inbox = self.inbox;
-        let queue = inbox.queue;
-        let next = queue.pop();
-        let rest = Inbox {
-            queue: next,
-            overrun: inbox.overrun,
-        };
-        Chip {
-            inbox: rest,
-            ..self
-        }
+        let mut inbox = self.inbox;
+        let _ = inbox.queue.pop();
+        Chip { inbox, ..self }
     }
 
     fn identified(self) -> Chip
         ensures { result ≡ identified self }
     {
-        let registers = self.registers;
-        let inbox = self.inbox;
-        let queue = inbox.queue;
-        let waits = !queue.is_empty();
-        let given = registers.identification(inbox.overrun, waits);
-        let next = Registers {
-            pending: registers.pending & !(given == 2),
-            ..registers
+        let waits = !self.inbox.queue.is_empty();
+        let given = self.registers.identification(self.inbox.overrun, waits);
+        let registers = Registers {
+            pending: self.registers.pending & (given != 2),
+            ..self.registers
         };
-        Chip {
-            registers: next,
-            ..self
-        }
+        Chip { registers, ..self }
     }
 
     fn line_status_read(self) -> Chip
         ensures { result ≡ line_status_read self }
     {
-        let inbox = self.inbox;
-        let next = Inbox {
+        let inbox = Inbox {
             overrun: false,
-            ..inbox
+            ..self.inbox
         };
-        Chip {
-            inbox: next,
-            ..self
-        }
+        Chip { inbox, ..self }
     }
 
     fn modem_status_read(self) -> Chip
         ensures { result ≡ modem_status_read self }
     {
-        let registers = self.registers;
-        let next = Registers {
+        let registers = Registers {
             delta: false,
-            ..registers
+            ..self.registers
         };
-        Chip {
-            registers: next,
-            ..self
-        }
+        Chip { registers, ..self }
     }
 
-    fn after_read(self, address: u8) -> Chip
-        ensures { result ≡ chip_after self address }
+    #[tactic(auto, unfolding(crate::specs::Chip::chip_after))]
+    fn after_read(self, register: Register) -> Chip
+        ensures { result ≡ chip_after self (address_of register) }
     {
-        match address {
-            0 => self.text_read(),
-            2 => self.identified(),
-            5 => self.line_status_read(),
-            6 => self.modem_status_read(),
-            _ => self,
+        match register {
+            Register::Data => self.text_read(),
+            Register::Identification => self.identified(),
+            Register::LineStatus => self.line_status_read(),
+            Register::ModemStatus => self.modem_status_read(),
+            Register::Enable | Register::LineControl | Register::ModemControl | Register::Scratch =>
+                self,
         }
     }
 
@@ -456,12 +425,13 @@ impl Chip {
     fn read_sound(self, address: u8) -> Result<Read, Refusal>
         ensures { result ≡ read_if true (leb address 7) self address }
     {
-        if address > 7 {
-            return Err(Refusal::Address);
+        match Register::try_from(address) {
+            Ok(register) => Ok(Read {
+                chip: self.after_read(register),
+                value: self.value(register),
+            }),
+            Err(refusal) => Err(refusal),
         }
-        let value = self.value(address);
-        let chip = self.after_read(address);
-        Ok(Read { chip, value })
     }
 
     // A register is written; a byte for address 0 is typed into the set.
@@ -492,23 +462,19 @@ impl Chip {
         ensures value { result ≡ write_if true (leb address 7) self address value carrier (length out.old) }
         ensures out_after { out.new ≡ outbox_if true (leb address 7) self address value out.old }
     {
-        if address > 7 {
-            return Err(Refusal::Address);
+        match Register::try_from(address) {
+            Ok(Register::Data) => self.transmit(value, carrier, out),
+            Ok(register) => Ok(self.store(register, value)),
+            Err(refusal) => Err(refusal),
         }
-        if address == 0 {
-            return self.transmit(value, carrier, out);
-        }
-        Ok(self.store(address, value))
     }
 
-    fn store(self, address: u8, value: u8) -> Written
-        ensures { result ≡ written self address value }
+    fn store(self, register: Register, value: u8) -> Written
+        ensures { result ≡ written self (address_of register) value }
     {
-        let registers = self.registers;
-        let next = registers.store(address, value);
         Written {
             chip: Chip {
-                registers: next,
+                registers: self.registers.store(register, value),
                 ..self
             },
             sent: 0,
@@ -519,19 +485,14 @@ impl Chip {
         ensures value { result ≡ transmitted self carrier (set.typed self.set value carrier (length out.old)) }
         ensures out_after { out.new ≡ set.outbox self.set value out.old }
     {
-        let set = self.set;
-        let typed = set.feed(value, carrier, out)?;
+        let typed = self.set.feed(value, carrier, out)?;
         let moved = self.moved(typed.set, typed.reply, carrier);
-        let registers = moved.registers;
-        let emptied = Registers {
+        let registers = Registers {
             pending: true,
-            ..registers
+            ..moved.registers
         };
         Ok(Written {
-            chip: Chip {
-                registers: emptied,
-                ..moved
-            },
+            chip: Chip { registers, ..moved },
             sent: typed.sent,
         })
     }
@@ -550,8 +511,7 @@ impl Chip {
     fn lapse_sound(self, ns: u64, carrier: bool) -> Result<Chip, Refusal>
         ensures { result ≡ lapse_taken self carrier (set.lapsed self.set ns carrier) }
     {
-        let set = self.set;
-        let lapsed = set.advance_time(ns, carrier)?;
+        let lapsed = self.set.advance_time(ns, carrier)?;
         Ok(self.moved(lapsed.set, lapsed.reply, carrier))
     }
 
@@ -571,10 +531,10 @@ impl Chip {
         ensures value { result ≡ fill_taken self (set.fill self.set (length out.old)) }
         ensures out_after { out.new ≡ set.buffer self.set out.old }
     {
-        let set = self.set;
-        let filled = set.process_out(out)?;
-        let chip = self.moved(filled.set, Reply::None, self.registers.flag);
-        let key = filled.key;
-        Ok(Fill { chip, key })
+        let filled = self.set.process_out(out)?;
+        Ok(Fill {
+            chip: self.moved(filled.set, Reply::None, self.registers.flag),
+            key: filled.key,
+        })
     }
 }
