@@ -24,8 +24,6 @@ use Rattle.cue.specs.Cue.{cued, sample_cued, key_cued}
 use Rattle.deframe.specs.declared.Deframer.{Deframer}
 use Rattle.deframe.specs.declared.Deframer.TheVariants.{Idle}
 use Rattle.deframe.specs.declared.Reading.{Reading}
-use Rattle.refusal.specs.declared.Refusal.{Refusal}
-use Rattle.refusal.specs.Refusal.{answer_number}
 use Rattle.deframe.specs.Read.{Read, marks_of, read_of, stopped}
 use Rattle.deframe.specs.Unframe.{unframe_of}
 use Rattle.report.specs.declared.Report.{Report}
