@@ -107,5 +107,5 @@ fn with_sent(total: u32, up: u32, sent: u32) -> u32 {
     if sent == 0 {
         return total;
     }
-    std::num::wrapping_add_u32(up, sent)
+    up.wrapping_add(sent)
 }

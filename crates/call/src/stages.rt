@@ -12,20 +12,25 @@ pub struct Up {
 // Makes the fills until the line is up, and notes the first sample of each stage at its number.
 pub fn find_all(set: Set, samples: &mut [f32], firsts: &mut [u32]) -> Up {
     let mut s = set;
-    let mut fill: u32 = 0;
-    while fill < u32::MAX && play::is_dialling(s) {
+    // A proved loop has to end: no overture takes as many fills as this one allows.
+    for fill in 0..u32::MAX {
+        if !play::is_dialling(s) {
+            return Up {
+                set: s,
+                fills: fill,
+            };
+        }
         s = find_in(s, play::length(fill), samples, firsts);
-        fill += 1;
     }
     Up {
         set: s,
-        fills: fill,
+        fills: u32::MAX,
     }
 }
 
 // An empty fill shows the stage of the sample after it, so what is searched is one sample at least.
 fn find_in(set: Set, n: usize, samples: &mut [f32], firsts: &mut [u32]) -> Set {
-    let some = play::larger(n, 1);
+    let some = n.max(1);
     if some > samples.len() {
         return set;
     }
@@ -44,11 +49,10 @@ fn find_in(set: Set, n: usize, samples: &mut [f32], firsts: &mut [u32]) -> Set {
 
 // Notes the stages that a fill reached.
 fn note(set: Set, before: u8, after: u8, samples: &mut [f32], firsts: &mut [u32]) {
-    let mut stage = before;
-    while stage < after {
-        stage += 1;
+    for passed in before..after {
+        let stage = passed + 1;
         let found = edges::first_sample(set, stage, samples).unwrap_or(0);
-        let first = std::num::wrapping_add_u32(set.m(), play::at_most(found, u32::MAX));
+        let first = set.m().wrapping_add(play::at_most(found, u32::MAX));
         put(firsts, stage as usize, first);
     }
 }

@@ -3,6 +3,9 @@
 use crate::play;
 use keys::Key;
 use set::Set;
+use text::Page;
+
+type Table = Page<8192>;
 
 pub fn print(
     output: &impl Print,
@@ -12,18 +15,14 @@ pub fn print(
     up: u32,
     sent: u32,
 ) {
-    let mut page = [0u8; 8192];
+    let mut page = Table::new();
     let rate = dialled.rate();
-    let mut k = text::put(
-        &mut page,
-        0,
-        b"stage  name         first   samples   seconds\n",
-    );
-    k = put_stages(&mut page, k, firsts, rate);
-    k = put_digits(&mut page, k, dialled);
-    k = put_end(&mut page, k, between(1, firsts[10]), rate, up);
-    k = put_sent(&mut page, k, up, sent, rate);
-    if let Err(why) = console::stream::flush(output, &page, k) {
+    page.put(b"stage  name         first   samples   seconds\n");
+    put_stages(&mut page, firsts, rate);
+    put_digits(&mut page, dialled);
+    put_end(&mut page, between(1, firsts[10]), rate, up);
+    put_sent(&mut page, up, sent, rate);
+    if let Err(why) = output.write_all(page.text()) {
         console::stream::fail(errors, b"call: standard output cannot be written", why);
     }
 }
@@ -36,153 +35,127 @@ pub fn between(first: u32, next: u32) -> u32 {
     0
 }
 
-fn put_stages(page: &mut [u8], at: usize, firsts: &[u32; 11], rate: u32) -> usize {
-    let mut k = at;
-    let mut stage: usize = 1;
-    while stage < 10 {
+fn put_stages(page: &mut Table, firsts: &[u32; 11], rate: u32) {
+    for stage in 1..10 {
         let first = firsts[stage];
-        let next = firsts[stage + 1];
-        k = put_stage(page, k, stage, first);
-        k = put_length(page, k, between(first, next), rate);
-        stage += 1;
+        put_stage(page, stage, first);
+        put_length(page, between(first, firsts[stage + 1]), rate);
     }
-    k = put_stage(page, k, 10, firsts[10]);
-    text::put_byte(page, k, b'\n')
+    put_stage(page, 10, firsts[10]);
+    page.put_byte(b'\n');
 }
 
-fn put_stage(page: &mut [u8], at: usize, stage: usize, first: u32) -> usize {
-    let mut k = put_number(page, at, stage as u64, 5);
-    k = put_name(page, k, stage);
-    put_number(page, k, first as u64, 9)
+fn put_stage(page: &mut Table, stage: usize, first: u32) {
+    put_number(page, stage as u64, 5);
+    page.put(name(stage));
+    put_number(page, first as u64, 9);
 }
 
 // The Rust's names.
-fn put_name(page: &mut [u8], at: usize, stage: usize) -> usize {
+fn name(stage: usize) -> &'static [u8] {
     match stage {
-        1 => text::put(page, at, b"  OffHook  "),
-        2 => text::put(page, at, b"  DialTone "),
-        3 => text::put(page, at, b"  Dialling "),
-        4 => text::put(page, at, b"  Ringback "),
-        5 => text::put(page, at, b"  Ci       "),
-        6 => text::put(page, at, b"  Ansam    "),
-        7 => text::put(page, at, b"  CmJm     "),
-        8 => text::put(page, at, b"  Cj       "),
-        9 => text::put(page, at, b"  Training "),
-        _ => text::put(page, at, b"  Connected"),
+        1 => b"  OffHook  ",
+        2 => b"  DialTone ",
+        3 => b"  Dialling ",
+        4 => b"  Ringback ",
+        5 => b"  Ci       ",
+        6 => b"  Ansam    ",
+        7 => b"  CmJm     ",
+        8 => b"  Cj       ",
+        9 => b"  Training ",
+        _ => b"  Connected",
     }
 }
 
-fn put_length(page: &mut [u8], at: usize, samples: u32, rate: u32) -> usize {
-    let k = put_number(page, at, samples as u64, 10);
-    put_seconds(page, k, samples, rate, 10)
+fn put_length(page: &mut Table, samples: u32, rate: u32) {
+    put_number(page, samples as u64, 10);
+    put_seconds(page, samples, rate, 10);
 }
 
 // How long so many samples last, at the line's end.
-fn put_seconds(page: &mut [u8], at: usize, samples: u32, rate: u32, width: usize) -> usize {
-    let mut word = [0u8; 20];
-    let n = text::put_seconds(&mut word, 0, samples, rate);
-    let k = put_right(page, at, &word, n, width);
-    text::put_byte(page, k, b'\n')
+fn put_seconds(page: &mut Table, samples: u32, rate: u32, width: usize) {
+    let mut word = Page::<20>::new();
+    word.put_seconds(samples, rate);
+    put_right(page, word.text(), width);
+    page.put_byte(b'\n');
 }
 
-fn put_digits(page: &mut [u8], at: usize, dialled: Set) -> usize {
+fn put_digits(page: &mut Table, dialled: Set) {
     let digits = dialled.digits();
-    let keys = digits.keys;
-    let len = digits.len;
-    if len == 0 {
-        return at;
+    if digits.len > 0 {
+        page.put(b"digit  key          first             seconds\n");
+        put_keys(page, dialled, &digits.keys, digits.len);
     }
-    let k = text::put(page, at, b"digit  key          first             seconds\n");
-    put_keys(page, k, dialled, &keys, len)
 }
 
 // The first `len` keys.
-fn put_keys(page: &mut [u8], at: usize, dialled: Set, keys: &[u8], len: usize) -> usize {
-    let mut k = at;
-    let mut i: usize = 0;
-    while i < keys.len() && i < len {
+fn put_keys(page: &mut Table, dialled: Set, keys: &[u8], len: usize) {
+    for (i, digit) in keys.iter().take(len).enumerate() {
         let (key, sample) = match cue::cue(dialled, play::at_most(i, u32::MAX)) {
             Ok(cued) => (cued.key, cued.sample),
             Err(_) => (None, 0),
         };
-        k = put_key(page, k, keys[i], key, sample, dialled.rate());
-        i += 1;
+        put_key(page, *digit, key, sample, dialled.rate());
     }
-    k
 }
 
 // A digit, where its key stands, and when it begins.
-fn put_key(
-    page: &mut [u8],
-    at: usize,
-    digit: u8,
-    key: Option<Key>,
-    sample: u64,
-    rate: u32,
-) -> usize {
-    let k = put_digit(page, at, digit, key);
-    put_first(page, k, sample, rate)
+fn put_key(page: &mut Table, digit: u8, key: Option<Key>, sample: u64, rate: u32) {
+    put_digit(page, digit, key);
+    put_first(page, sample, rate);
 }
 
 // A digit, and the row and the column of its key.
-fn put_digit(page: &mut [u8], at: usize, digit: u8, key: Option<Key>) -> usize {
-    let word = [digit];
-    let k = put_right(page, at, &word, 1, 5);
+fn put_digit(page: &mut Table, digit: u8, key: Option<Key>) {
+    put_right(page, &[digit], 5);
     match key {
         Some(Key { row, column }) => {
-            let l = put_number(page, k, row as u64, 4);
-            put_number(page, l, column as u64, 1)
+            put_number(page, row as u64, 4);
+            put_number(page, column as u64, 1);
         }
-        None => put_right(page, k, b"-", 1, 5),
+        None => put_right(page, b"-", 5),
     }
 }
 
 // Its first sample, and how long after the call's first that is.
-fn put_first(page: &mut [u8], at: usize, sample: u64, rate: u32) -> usize {
+fn put_first(page: &mut Table, sample: u64, rate: u32) {
     let first = play::at_most(sample as usize, u32::MAX);
-    let k = put_number(page, at, sample, 15);
-    put_seconds(page, k, between(1, first), rate, 20)
+    put_number(page, sample, 15);
+    put_seconds(page, between(1, first), rate, 20);
 }
 
-fn put_number(page: &mut [u8], at: usize, number: u64, width: usize) -> usize {
-    let mut word = [0u8; 20];
-    let n = text::put_decimal(&mut word, 0, number);
-    put_right(page, at, &word, n, width)
+fn put_number(page: &mut Table, number: u64, width: usize) {
+    let mut word = Page::<20>::new();
+    word.put_decimal(number);
+    put_right(page, word.text(), width);
 }
 
-// The first `n` bytes of a word, with spaces in front up to a width.
-fn put_right(page: &mut [u8], at: usize, word: &[u8], n: usize, width: usize) -> usize {
-    let mut k = at;
-    let mut i = n;
-    while i < width {
-        k = text::put_byte(page, k, b' ');
-        i += 1;
+// A word, with spaces in front up to a width.
+fn put_right(page: &mut Table, word: &[u8], width: usize) {
+    for _ in word.len()..width {
+        page.put_byte(b' ');
     }
-    if n > word.len() {
-        return k;
-    }
-    text::put(page, k, &word[..n])
+    page.put(word);
 }
 
-fn put_end(page: &mut [u8], at: usize, total: u32, rate: u32, up: u32) -> usize {
-    let mut k = text::put(page, at, b"T is ");
-    k = text::put_decimal(page, k, total as u64);
-    k = text::put(page, k, b" samples, ");
-    k = text::put_seconds(page, k, total, rate);
-    k = text::put(page, k, b" seconds\nthe line was up at sample ");
-    k = text::put_decimal(page, k, up as u64);
-    text::put_byte(page, k, b'\n')
+fn put_end(page: &mut Table, total: u32, rate: u32, up: u32) {
+    page.put(b"T is ");
+    page.put_decimal(total as u64);
+    page.put(b" samples, ");
+    page.put_seconds(total, rate);
+    page.put(b" seconds\nthe line was up at sample ");
+    page.put_decimal(up as u64);
+    page.put_byte(b'\n');
 }
 
 // The last sample of the fill in which the text's last frame ended, of a call that has one.
-fn put_sent(page: &mut [u8], at: usize, up: u32, sent: u32, rate: u32) -> usize {
-    if sent == 0 {
-        return at;
+fn put_sent(page: &mut Table, up: u32, sent: u32, rate: u32) {
+    if sent > 0 {
+        let last = up.wrapping_add(sent);
+        page.put(b"TEXT was sent by sample ");
+        page.put_decimal(last as u64);
+        page.put(b", ");
+        page.put_seconds(last, rate);
+        page.put(b" seconds\n");
     }
-    let last = std::num::wrapping_add_u32(up, sent);
-    let mut k = text::put(page, at, b"TEXT was sent by sample ");
-    k = text::put_decimal(page, k, last as u64);
-    k = text::put(page, k, b", ");
-    k = text::put_seconds(page, k, last, rate);
-    text::put(page, k, b" seconds\n")
 }

@@ -30,14 +30,19 @@ pub fn queue(talk: Talk, message: &[u8]) -> Talk {
 
 fn queue_from(set: Set, message: &[u8], from: usize) -> Talk {
     let mut s = set;
-    let mut i = from;
-    while i < message.len() && has_room(s) {
+    for i in from..message.len() {
+        if s.sending.queue.is_full() {
+            return Talk {
+                set: s,
+                queued: i,
+                mark: 0,
+            };
+        }
         s = queue_byte(s, message[i]);
-        i += 1;
     }
     Talk {
         set: s,
-        queued: i,
+        queued: message.len().max(from),
         mark: 0,
     }
 }
@@ -52,15 +57,6 @@ fn mark_left(talk: Talk, n: usize) -> u32 {
     talk.mark - heard
 }
 
-fn has_room(set: Set) -> bool {
-    let sending = set.sending;
-    let queue = sending.queue;
-    if queue.is_full() {
-        return false;
-    }
-    true
-}
-
 fn queue_byte(set: Set, byte: u8) -> Set {
     set.queue_byte(byte).unwrap_or(set)
 }
@@ -68,23 +64,24 @@ fn queue_byte(set: Set, byte: u8) -> Set {
 // The samples of the fills from the one behind `fill` others to the one in which the text's last frame ends.
 pub fn length(set: Set, fill: u32, message: &[u8], samples: &mut [f32]) -> u32 {
     let mut t = silent(set);
-    let mut at = fill;
     let mut total: u32 = 0;
-    while at < u32::MAX && goes_on(t, message) {
+    // A proved loop has to end: no text takes as many fills as this one allows.
+    for at in fill..u32::MAX {
+        if !goes_on(t, message) {
+            break;
+        }
         let n = play::length(at);
         t = fill_next(t, message, n, samples);
-        total = std::num::wrapping_add_u32(total, play::at_most(n, u32::MAX));
-        at += 1;
+        total = total.wrapping_add(play::at_most(n, u32::MAX));
     }
     total
 }
 
 fn fill_next(talk: Talk, message: &[u8], n: usize, samples: &mut [f32]) -> Talk {
-    let none: usize = 0;
     if n > samples.len() {
         return talk;
     }
-    fill(talk, message, &mut samples[none..n])
+    fill(talk, message, &mut samples[..n])
 }
 
 // The fill that follows, with what is queued before it.

@@ -21,7 +21,7 @@ fn one(output: &impl Print, digits: &[u8], rate: u32) {
     let refusal = plan::plan_refusal(digits, rate);
     let mut k = tried::put_number(&mut page, 0, b"plan of ", digits.len() as u64);
     k = tried::put_number(&mut page, k, b" at ", rate as u64);
-    k = tried::put_number(&mut page, k, b" refusal ", refusal.number() as u64);
+    k = tried::put_number(&mut page, k, b" refusal ", refusal::answer_number(&refusal) as u64);
     k = text::put(&mut page, k, b" stages");
     k = put_stage(&mut page, k, digits, rate, 0);
     k = put_stage(&mut page, k, digits, rate, 1);

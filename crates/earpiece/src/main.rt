@@ -3,14 +3,16 @@
 
 mod wav;
 
-ghost use Rattle.std.specs.Prelude.{◌≤◌};
-
 use console::stream::has_word;
 use recording::words;
 use std::env::Env;
 use std::io;
 use std::io::Write;
 use std::rt::Files;
+use text::Page;
+
+// How many samples are made and written at once.
+const SAMPLES: usize = 4096;
 
 fn main(rt: HostRuntime) {
     let errors = rt.stderr();
@@ -40,12 +42,10 @@ fn with_digits(rt: &(impl Env + Files), errors: &impl Print) {
 fn with_rate(rt: &(impl Env + Files), errors: &impl Print, digits: &[u8]) {
     if words::all_dialled(digits) {
         let rate = words::rate(rt);
-        let refusal = plan::plan_refusal(digits, rate);
-        if refusal.number() == 0 {
-            with_file(rt, errors, digits, rate);
-            return;
+        match plan::plan_refusal(digits, rate) {
+            Ok(()) => with_file(rt, errors, digits, rate),
+            Err(_) => words::no_rate(errors, b"earpiece"),
         }
-        words::no_rate(errors, b"earpiece");
         return;
     }
     words::no_key(errors, b"earpiece");
@@ -70,68 +70,23 @@ fn write(rt: &impl Files, errors: &impl Print, digits: &[u8], rate: u32, path: &
 
 // Writes the header and, in buffers, the T samples behind it.
 fn record(file: &mut impl Write, digits: &[u8], rate: u32) -> io::Result<()> {
-    let mut samples = [0i16; 4096];
-    let mut bytes = [0u8; 8192];
+    let mut samples = [0i16; SAMPLES];
+    let mut bytes = Page::<8192>::new();
     let total = plan::total_samples(digits, rate);
     let header = wav::header(total, rate);
-    file.write_all(&header)?;
-    record_all(file, digits, rate, total, &mut samples, &mut bytes)
-}
-
-fn record_all(
-    file: &mut impl Write,
-    digits: &[u8],
-    rate: u32,
-    total: u32,
-    samples: &mut [i16],
-    bytes: &mut [u8],
-) -> io::Result<()> {
-    let mut pass: u32 = 0;
-    while pass < total {
-        let count = least(samples.len(), total - pass);
-        if count == 0 {
-            return Err(refused());
-        }
-        record_part(file, digits, rate, pass, count as usize, samples, bytes)?;
-        pass += count;
+    file.write_all(header.text())?;
+    for pass in (0..total).step_by(SAMPLES) {
+        let count = SAMPLES.min((total - pass) as usize);
+        let part = &mut samples[..count];
+        handset::earpiece(digits, rate, u64::from(pass), part).map_err(|_| refused())?;
+        bytes.clear();
+        wav::put_samples(&mut bytes, part);
+        file.write_all(bytes.text())?;
     }
     Ok(())
-}
-
-fn record_part(
-    file: &mut impl Write,
-    digits: &[u8],
-    rate: u32,
-    pass: u32,
-    count: usize,
-    samples: &mut [i16],
-    bytes: &mut [u8],
-) -> io::Result<()> {
-    let none: usize = 0;
-    if count > samples.len() {
-        return Err(refused());
-    }
-    let refusal = handset::earpiece(digits, rate, pass as u64, &mut samples[none..count]);
-    if refusal > 0 {
-        return Err(refused());
-    }
-    let end = wav::put_samples(bytes, &samples[none..count]);
-    if end <= bytes.len() {
-        return file.write_all(&bytes[none..end]);
-    }
-    Err(refused())
 }
 
 // The samples of a call that its plan takes are refused none.
 fn refused() -> io::Error {
     io::Error::other("its samples were refused")
-}
-
-fn least(length: usize, left: u32) -> u32
-    ensures { (result ≤ length) × (result ≤ left) }
-{
-    if length < left as usize {
-        return length as u32;
-    }
-    left
 }

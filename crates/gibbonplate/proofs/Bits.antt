@@ -16,7 +16,8 @@ use Rattle.session.specs.Session.{digits_held}
 use Rattle.set.specs.Sound.{sound}
 use Rattle.set.proofs.Ranges.{ranges}
 use Rattle.gibbonplate.specs.declared.plain.PlainStage.{PlainStage}
-use Rattle.gibbonplate.specs.Memory.{Memory, plain, done_in, bits_of, stages, staged, sends_bits, too_many_bits, plain_in, set_in}
+use Rattle.gibbonplate.specs.declared.memory.Memory.{Memory}
+use Rattle.gibbonplate.specs.Memory.{plain, done_in, bits_of, stages, staged, sends_bits, too_many_bits, plain_in, set_in}
 
 pub done_held : (count : ℕ) → count ≤ most_done → done_in count ≡ count
 unfolding done_in

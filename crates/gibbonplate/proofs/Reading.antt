@@ -32,7 +32,8 @@ use Rattle.passage.specs.Overture.{HasLength}
 use Rattle.plan.specs.Plan.{plan_refusal_number, plan_cause, stage_samples, total_samples}
 use Rattle.handset.specs.Sound.{samples_after}
 use Rattle.handset.specs.Call.{earpiece_refusal, EarpieceIs}
-use Rattle.gibbonplate.specs.Memory.{Memory, memory, stored, loaded, kept}
+use Rattle.gibbonplate.specs.declared.memory.Memory.{Memory}
+use Rattle.gibbonplate.specs.Memory.{memory, stored, loaded, kept}
 use Rattle.gibbonplate.specs.Calls.{key_numbers}
 use Rattle.gibbonplate.proofs.gibbonplate_new_in.Reads as new_in
 use Rattle.gibbonplate.proofs.gibbonplate_feed_in.Reads as feed-in

@@ -18,7 +18,8 @@ use Rattle.set.specs.Set.{fresh_set}
 use Rattle.set.specs.Sound.{sound}
 use Rattle.set.proofs.Ranges.{sound-rate}
 use Rattle.gibbonplate.specs.declared.plain.PlainStage.{PlainStage}
-use Rattle.gibbonplate.specs.Memory.{Memory, plain, staged, state_at, flag, stored, set_in, loaded, holds_set}
+use Rattle.gibbonplate.specs.declared.memory.Memory.{Memory}
+use Rattle.gibbonplate.specs.Memory.{plain, staged, state_at, flag, stored, set_in, loaded, holds_set}
 
 flag-low : (on : Bool) → leb (flag on) 1 ≡ true
 flag-low true = refl

@@ -14,7 +14,8 @@ use Rattle.set.specs.Refusals.{told}
 use Rattle.set.specs.Set.{made, typed, outbox, lapsed, forced, byte_queued, fill, buffer, rung, reply_typed, sent_typed, reply_lapsed, key_filled}
 use Rattle.set.specs.String.{typed_all, outbox_all, codes_all}
 use Rattle.cue.specs.Cue.{cued, sample_cued, key_cued}
-use Rattle.gibbonplate.specs.Memory.{Memory, stored, loaded, kept}
+use Rattle.gibbonplate.specs.declared.memory.Memory.{Memory}
+use Rattle.gibbonplate.specs.Memory.{stored, loaded, kept}
 
 -- creation: a declined one leaves a fresh set too
 pub record NewCall (after : Memory) (rate number : ℕ) : Type 0 where

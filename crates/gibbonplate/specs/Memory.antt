@@ -18,6 +18,7 @@ use Rattle.session.specs.Session.{state_number}
 use Rattle.refusal.specs.declared.Refusal.{Refusal}
 use Rattle.set.specs.declared.Set.{Set}
 use Rattle.set.specs.Set.{s12_of, fresh_set}
+use Rattle.gibbonplate.specs.declared.memory.Memory.{Memory}
 use Rattle.gibbonplate.specs.declared.plain.PlainStage.{PlainStage}
 
 -- longs: the line's length, the idle time, the down time, the number of digits, the stage's own number, the bytes waiting
@@ -26,15 +27,6 @@ use Rattle.gibbonplate.specs.declared.plain.PlainStage.{PlainStage}
 -- marks: the mode, pluses held, the carrier-seen mark, the state, the shown stage; the stage, its ring, whether in tone; whether the line ran over; S12;
 --   the sender's byte, its bits begun, whether the next sample is an edge
 -- line: its 80 bytes; keys: the 76 places of the digits; queue: the 256 of the bytes that wait
-pub record Memory : Type 0 where
-  pub longs : List ℕ
-  pub counts : List ℕ
-  pub reals : List Float
-  pub marks : List ℕ
-  pub line : List ℕ
-  pub keys : List ℕ
-  pub queue : List ℕ
-
 abbrev pub memory : List ℕ → List ℕ → List Float → List ℕ → List ℕ → List ℕ → List ℕ → Memory
 memory longs counts reals marks line keys queue =
     record { longs = longs; counts = counts; reals = reals; marks = marks; line = line; keys = keys; queue = queue }
@@ -42,6 +34,9 @@ memory longs counts reals marks line keys queue =
 -- ---- the state of a stage, as numbers
 abbrev pub no_nco : Nco
 no_nco = record { phase = zero; step = zero; rate = zero }
+
+abbrev pub blank : ℕ → PlainStage
+blank number = record { number = number; own = 0; count = 0; zeros = 0; ring = 0; tone = false; a = no_nco; b = no_nco }
 
 -- the symbol clock stands where a second oscillator would
 abbrev pub bits_plain : ℕ → FskChannel → ℕ → PlainStage

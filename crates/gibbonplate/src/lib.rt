@@ -417,8 +417,7 @@ pub extern "C" fn gibbonplate_write_reply(code: u8, s12: u8, out: &mut [u8]) -> 
 pub extern "C" fn gibbonplate_plan_refusal(digits: &[u8], rate: u32) -> u8
     ensures { result ≡ plan_refusal_number (plan_cause (length digits.now) rate) }
 {
-    let refusal = plan::plan_refusal(digits, rate);
-    refusal.number()
+    refusal::answer_number(&plan::plan_refusal(digits, rate))
 }
 
 #[unsafe(no_mangle)]
@@ -442,5 +441,5 @@ pub extern "C" fn gibbonplate_total_samples(digits: &[u8], rate: u32) -> u32
 pub extern "C" fn gibbonplate_earpiece(digits: &[u8], rate: u32, pass: u64, out: &mut [i16]) -> u8
     ensures { EarpieceIs digits.now rate pass out.old out.new result }
 {
-    handset::earpiece(digits, rate, pass, out)
+    refusal::answer_number(&handset::earpiece(digits, rate, pass, out))
 }

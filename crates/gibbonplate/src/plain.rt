@@ -1,7 +1,7 @@
 // The state of a stage as plain numbers: the enum's cases side by side, with zeros where a case has nothing to say.
 ghost use Rattle.std.specs.Prelude.{◌≤◌, ◌≡◌};
 ghost use Rattle.fsk.specs.Channel.{most_done};
-ghost use Rattle.gibbonplate.specs.Memory.{no_nco, bits_plain, tones_plain, plain, done_in, bits_of, staged, state_at};
+ghost use Rattle.gibbonplate.specs.Memory.{blank, bits_plain, plain, done_in, bits_of, staged, state_at};
 
 use fsk::{FskChannel, Modulator};
 use nco::Nco;
@@ -24,13 +24,24 @@ pub struct PlainStage {
     pub b: Nco,
 }
 
-fn no_nco() -> Nco
-    ensures { result ≡ no_nco }
+// No oscillators and no counts.
+fn blank(number: u8) -> PlainStage
+    ensures { result ≡ blank number }
 {
-    Nco {
+    let none = Nco {
         phase: 0.0,
         step: 0.0,
         rate: 0.0,
+    };
+    PlainStage {
+        number,
+        own: 0,
+        count: 0,
+        zeros: 0,
+        ring: 0,
+        tone: false,
+        a: none,
+        b: none,
     }
 }
 
@@ -40,36 +51,16 @@ fn bits_plain(number: u8, fsk: FskChannel, zeros: u32) -> PlainStage
     ensures done_le_most_done { fsk.done ≤ most_done }
 {
     let m = fsk.modulator;
-    let a = m.nco;
-    let count = fsk.done as u32;
     PlainStage {
-        number,
-        own: 0,
-        count,
+        count: u32::from(fsk.done),
         zeros,
-        ring: 0,
-        tone: false,
-        a,
+        a: m.nco,
         b: Nco {
             phase: m.phase,
             step: m.step,
             rate: 0.0,
         },
-    }
-}
-
-fn tones_plain(number: u8, a: Nco, b: Nco, count: u32, ring: u8) -> PlainStage
-    ensures { result ≡ tones_plain number a b count ring }
-{
-    PlainStage {
-        number,
-        own: 0,
-        count,
-        zeros: 0,
-        ring,
-        tone: false,
-        a,
-        b,
+        ..blank(number)
     }
 }
 
@@ -78,20 +69,17 @@ pub fn plain(stage: StageState) -> PlainStage
     ensures result_value { staged result ≡ stage }
 {
     match stage {
-        StageState::OffHook { rng, n } => {
-            let a = no_nco();
-            PlainStage {
-                number: 1,
-                own: rng,
-                count: n,
-                zeros: 0,
-                ring: 0,
-                tone: false,
-                a,
-                b: a,
-            }
-        }
-        StageState::DialTone { a, b, n } => tones_plain(2, a, b, n, 0),
+        StageState::OffHook { rng, n } => PlainStage {
+            own: rng,
+            count: n,
+            ..blank(1)
+        },
+        StageState::DialTone { a, b, n } => PlainStage {
+            count: n,
+            a,
+            b,
+            ..blank(2)
+        },
         StageState::Dialling {
             digit_i,
             in_tone,
@@ -99,25 +87,31 @@ pub fn plain(stage: StageState) -> PlainStage
             b,
             n,
         } => PlainStage {
-            number: 3,
             own: digit_i,
             count: n,
-            zeros: 0,
-            ring: 0,
             tone: in_tone,
             a,
             b,
+            ..blank(3)
         },
-        StageState::Ringback { a, b, n, ring } => tones_plain(4, a, b, n, ring),
+        StageState::Ringback { a, b, n, ring } => PlainStage {
+            count: n,
+            ring,
+            a,
+            b,
+            ..blank(4)
+        },
         StageState::Ci(fsk) => bits_plain(5, fsk, 0),
-        StageState::Ansam { carrier, env, n } => tones_plain(6, carrier, env, n, 0),
+        StageState::Ansam { carrier, env, n } => PlainStage {
+            count: n,
+            a: carrier,
+            b: env,
+            ..blank(6)
+        },
         StageState::CmJm(fsk) => bits_plain(7, fsk, 0),
         StageState::Cj { fsk, silence_n } => bits_plain(8, fsk, silence_n),
         StageState::Training(fsk) => bits_plain(9, fsk, 0),
-        StageState::Connected => {
-            let a = no_nco();
-            tones_plain(10, a, a, 0, 0)
-        }
+        StageState::Connected => blank(10),
     }
 }
 
@@ -125,19 +119,15 @@ pub fn plain(stage: StageState) -> PlainStage
 fn bits_done(count: u32) -> u16
     ensures { result ≡ done_in count }
 {
-    if count <= 0xffff {
-        return count as u16;
-    }
-    0xffff
+    u16::try_from(count).unwrap_or(u16::MAX)
 }
 
 fn bits(p: PlainStage) -> FskChannel
     ensures { result ≡ bits_of p }
 {
-    let nco = p.a;
     FskChannel {
         modulator: Modulator {
-            nco,
+            nco: p.a,
             phase: p.b.phase,
             step: p.b.step,
         },

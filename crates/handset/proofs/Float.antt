@@ -1,5 +1,5 @@
 -- Stage, tone and gap are the float overture's: by the cases of its state, whose sample is gated by the very test that says what sounds. Assumes nothing.
-use Rattle.std.proofs.Common.{◌≡◌, ℕ, zero, suc, ◌≤◌, Bool, true, false, not, ◌&&◌, leb, List, ◌∷◌, length, replicate, ℤ, pos, sym, refl, ap, ◌∙◌, subst, le_trans, arith}
+use Rattle.std.proofs.Common.{◌≡◌, ℕ, suc, ◌≤◌, Bool, true, false, not, ◌&&◌, leb, List, length, sym, refl, ap, ◌∙◌, subst, le_trans, arith}
 use Rattle.nco.specs.declared.Nco.{Nco}
 use Rattle.keys.specs.Keys.{all_keys}
 use Rattle.schedule.specs.Time.{time_at, saturating_inc}
@@ -17,12 +17,10 @@ use Rattle.overture.specs.Iteration.{fresh}
 use Rattle.overture.proofs.Iteration.{after-suc}
 use Rattle.passage.specs.Lengths.{samples_before}
 use Rattle.passage.proofs.Overture.{overture-length}
-use Rattle.handset.specs.declared.Sound.TheVariants.{Silent}
 use Rattle.handset.specs.Sound.{sound_of, state_after}
-use Rattle.handset.specs.Runs.{heard_from}
 use Rattle.handset.specs.Float.{is_sounding, Holds, SameSteps, FloatEdges}
 use Rattle.handset.proofs.Stages.{silent-stage, late-stage}
-use Rattle.handset.proofs.Heard.{silence}
+use Rattle.handset.proofs.Heard.{zeros}
 use Rattle.handset.proofs.Joined.{silence-after}
 use Rattle.handset.proofs.Gate.{ring-gate, dial-sounds}
 use Rattle.handset.proofs.Oscillators.{Stepped, stepped}
@@ -65,11 +63,6 @@ gated digits keys r (Training f) lo hi = absurd (omega arith)
 gated digits keys r Connected lo hi = absurd (omega arith)
 
 -- ---- T
-zeros : (n : ℕ) → heard_from Silent 0 0 n ≡ replicate n (pos 0)
-unfolding heard_from
-zeros zero = refl
-zeros (suc n) = ap (λ (l : List ℤ). pos 0 ∷ l) (silence 0 1 n ∙ zeros n)
-
 module _ (digits : List ℕ) (r : ℕ) (lo : 8000 ≤ r) (hi : r ≤ 192000) (few : length digits ≤ 76) (keys : all_keys digits ≡ true) where
   within : samples_before stage.Ci r (length digits) ≤ total r (length digits)
   unfolding samples_before total

@@ -1,9 +1,9 @@
 -- Samples that sound alike, written one after another over a buffer; a phase after many steps, at once. By induction on the samples. Assumes nothing.
-use Rattle.std.proofs.Common.{◌≡◌, ℕ, zero, suc, ◌+◌, ◌-◌, ◌*◌, ◌%◌, ◌^◌, ◌<◌, ◌≤◌, List, [], ◌∷◌, ◌++◌, length, drop, set, ℤ, pos, sym, refl, ap, ◌∙◌, subst, append_assoc, append-nil, add-zero, add-one, arith, length-append, length-drop, drop_of_length-le, drop-cons}
+use Rattle.std.proofs.Common.{◌≡◌, ℕ, zero, suc, ◌+◌, ◌*◌, ◌%◌, ◌^◌, ◌<◌, ◌≤◌, List, [], ◌∷◌, ◌++◌, length, drop, set, replicate, ℤ, pos, sym, refl, ap, ◌∙◌, subst, append_assoc, append-nil, add-zero, add-one, le_antisymm, arith, drop_of_length-le, drop-cons}
 use native.Mathlib.Nat.{mod-add-mod}
 use lib.Seq.{set_at}
-use Rattle.handset.specs.declared.Sound.{Sound}
-use Rattle.handset.specs.declared.Sound.TheVariants.{Silent}
+use Rattle.std.specs.Prelude.{None}
+use Rattle.handset.specs.Sound.{Sound}
 use Rattle.handset.specs.Tone.{phase_after}
 use Rattle.handset.specs.Sound.{heard}
 use Rattle.handset.specs.Runs.{heard_from}
@@ -37,13 +37,18 @@ heard-suc sound r steps (suc n) =
     turn a n = omega arith
 
 -- silence is the same at every rate and after any steps
-pub silence : (r steps n : ℕ) → heard_from Silent r steps n ≡ heard_from Silent 0 0 n
+pub silence : (r steps n : ℕ) → heard_from None r steps n ≡ heard_from None 0 0 n
 unfolding heard_from
 silence r steps n = same r steps 0 n
   where
-    same : (r a b n : ℕ) → heard_from Silent r a n ≡ heard_from Silent 0 b n
+    same : (r a b n : ℕ) → heard_from None r a n ≡ heard_from None 0 b n
     same r a b zero = refl
     same r a b (suc n) = ap (λ (l : List ℤ). pos 0 ∷ l) (same r (suc a) (suc b) n)
+
+pub zeros : (n : ℕ) → heard_from None 0 0 n ≡ replicate n (pos 0)
+unfolding heard_from
+zeros zero = refl
+zeros (suc n) = ap (λ (l : List ℤ). pos 0 ∷ l) (silence 0 1 n ∙ zeros n)
 
 -- ---- a buffer of which the first i places are written
 pub record Written (sound : Sound) (r steps : ℕ) (was out : List ℤ) (i : ℕ) : Type 0 where
@@ -55,15 +60,6 @@ module _ (sound : Sound) (r steps : ℕ) (was : List ℤ) where
   unfolding heard_from
   start = record { count = omega arith; buffer = refl }
 
-  pub same_length : (out : List ℤ) (i : ℕ) → Written sound r steps was out i → length out ≡ length was
-  same_length out i W = ap length W.buffer ∙ simp (length-append, heard-length, length-drop) (left (length was) i W.count)
-    where
-      left : (n i : ℕ) → i ≤ n → i + (n - i) ≡ n
-      left n i h = omega arith
-
-  pub below : (out : List ℤ) (i : ℕ) → Written sound r steps was out i → i < length out → i < length was
-  below out i W l = subst (λ (n : ℕ). i < n) (same_length out i W) l
-
   pub again : (out : List ℤ) (i : ℕ) (v : ℤ) → Written sound r steps was out i → i < length was → v ≡ heard sound r (steps + i)
       → Written sound r steps was (set out i v) (i + 1)
   again out i v W l e = record {
@@ -73,13 +69,7 @@ module _ (sound : Sound) (r steps : ℕ) (was : List ℤ) where
         (set_at (heard_from sound r steps i) _ _ _ i (heard-length sound r steps i));
   }
 
-  pub full : (out : List ℤ) (i : ℕ) → Written sound r steps was out i → length out ≤ i → out ≡ heard_from sound r steps (length was)
+  pub full : (out : List ℤ) (i : ℕ) → Written sound r steps was out i → length was ≤ i → out ≡ heard_from sound r steps (length was)
   full out i W l =
-      let e : i ≡ length was = same i (length out) (length was) W.count l (same_length out i W) in
-      subst (λ (n : ℕ). out ≡ heard_from sound r steps n) e (W.buffer ∙ rw (drop_of_length-le was {i = i} (past i (length was) e), append-nil))
-    where
-      same : (i m n : ℕ) → i ≤ n → m ≤ i → m ≡ n → i ≡ n
-      same i m n h k e = omega arith
-
-      past : (i n : ℕ) → i ≡ n → n ≤ i
-      past i n e = omega arith
+      let e : i ≡ length was = le_antisymm W.count l in
+      subst (λ (n : ℕ). out ≡ heard_from sound r steps n) e (W.buffer ∙ rw (drop_of_length-le was {i = i} l, append-nil))

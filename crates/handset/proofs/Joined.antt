@@ -5,8 +5,8 @@ use Rattle.schedule.proofs.Lengths.{click-range, dial-tone-range, dialling-range
 use Rattle.keys.specs.Keys.{digits_of}
 use Rattle.stage.specs.declared.Stage.TheVariants as stage
 use Rattle.passage.specs.Lengths.{samples_before}
-use Rattle.handset.specs.declared.Sound.{Sound}
-use Rattle.handset.specs.declared.Sound.TheVariants.{Silent}
+use Rattle.std.specs.Prelude.{None}
+use Rattle.handset.specs.Sound.{Sound}
 use Rattle.handset.specs.declared.Run.{Run}
 use Rattle.handset.specs.Sound.{steps_after, heard, sample_after, samples_after}
 use Rattle.handset.specs.Call.{EarpieceIs}
@@ -125,7 +125,7 @@ module _ (digits : List ℕ) (r : ℕ) (lo : 8000 ≤ r) (hi : r ≤ 192000) (fe
       omega arith
 
   -- 0 past T: from Ringback's end on
-  pub silence-after : (pass n : ℕ) → samples_before stage.Ci r (length digits) ≤ pass → samples_after digits r pass n ≡ heard_from Silent 0 0 n
+  pub silence-after : (pass n : ℕ) → samples_before stage.Ci r (length digits) ≤ pass → samples_after digits r pass n ≡ heard_from None 0 0 n
   unfolding samples_after sample_after heard_from
   silence-after pass zero h = refl
   silence-after pass (suc n) h =

@@ -15,12 +15,13 @@ use Rattle.runs.proofs.Counted.{counted_is}
 use Rattle.stage.specs.declared.Stage.TheVariants as stage
 use Rattle.tones.specs.Dial.{dialled_key}
 use Rattle.passage.specs.Lengths.{samples_before, samples_of_digits}
-use Rattle.handset.specs.declared.Sound.{Sound}
-use Rattle.handset.specs.declared.Sound.TheVariants.{Silent, Tones}
+use Rattle.std.specs.Prelude.{Some, None}
+use Rattle.handset.specs.declared.Tones.{Tones}
+use Rattle.handset.specs.Sound.{Sound}
 use Rattle.handset.specs.declared.Run.{Run}
-use Rattle.handset.specs.Sound.{key_sound, ring_sound, sound_after, steps_after, heard}
-use Rattle.handset.specs.Runs.{count_if, rings_at, rung_before, rung_with, Audible, Some, silent_run, dial_tone_run, DialledRun, RungRun, IsRun}
-use Rattle.handset.proofs.Stages.{not-silent, silent-before, silent-after, dial-tone-sound, dial-tone-steps, ringback-sound, ringback-steps, dialling-sound, dialling-steps}
+use Rattle.handset.specs.Sound.{sounding_tones, key_sound, ring_sound, sound_after, steps_after, heard}
+use Rattle.handset.specs.Runs.{count_if, rings_at, rung_before, rung_with, Audible, Room, silent_run, dial_tone_run, DialledRun, RungRun, IsRun}
+use Rattle.handset.proofs.Stages.{silent-before, silent-after, dial-tone-sound, dial-tone-steps, ringback-sound, ringback-steps, dialling-sound, dialling-steps}
 
 -- ---- what is audible
 row_low : (row : ℕ) → get_or rows row 0 < 8000
@@ -46,10 +47,10 @@ ring-audible true = (lit< tt, lit< tt)
 ring-audible false = tt
 
 -- ---- room
-pub wider : (stage left least count : ℕ) → Least stage left least → 0 < stage → Some least count → Some left count
+pub wider : (stage left least count : ℕ) → Least stage left least → 0 < stage → Room least count → Room left count
 wider stage left least count L s S = record { some = λ h. S.some (L.some s h); fits = le_trans S.fits L.fits }
 
-pub all_of : (stage left least : ℕ) → Least stage left least → 0 < stage → Some left least
+pub all_of : (stage left least : ℕ) → Least stage left least → 0 < stage → Room left least
 all_of stage left least L s = record { some = L.some s; fits = L.fits }
 
 -- ---- Ringback's bursts
@@ -114,14 +115,14 @@ module _ (digits : List ℕ) (r : ℕ) (lo : 8000 ≤ r) (hi : r ≤ 192000) (fe
   abbrev d : ℕ
   d = length digits
 
-  pub silent-run : (k left count : ℕ) → Some left count → ((j : ℕ) → j < count → sound_after digits r (k + j) ≡ Silent) → IsRun digits r k left (silent_run count)
+  pub silent-run : (k left count : ℕ) → Room left count → ((j : ℕ) → j < count → sound_after digits r (k + j) ≡ None) → IsRun digits r k left (silent_run count)
   silent-run k left count S h = record { room = S; audible = tt; sound = h; heard-alike = λ j l. refl }
 
   -- before dial tone, and after Ringback
-  pub early-run : (k left count : ℕ) → k + count ≤ samples_before stage.DialTone r d → Some left count → IsRun digits r k left (silent_run count)
+  pub early-run : (k left count : ℕ) → k + count ≤ samples_before stage.DialTone r d → Room left count → IsRun digits r k left (silent_run count)
   early-run k left count e S = silent-run k left count S (λ j l. silent-before digits r lo hi few (k + j) (omega arith))
 
-  pub late-run : (k left count : ℕ) → samples_before stage.Ci r d ≤ k → Some left count → IsRun digits r k left (silent_run count)
+  pub late-run : (k left count : ℕ) → samples_before stage.Ci r d ≤ k → Room left count → IsRun digits r k left (silent_run count)
   late-run k left count e S = silent-run k left count S (λ j l. silent-after digits r lo hi few (k + j) (omega arith))
 
   -- the place of a sample, from its stage's first
@@ -131,26 +132,26 @@ module _ (digits : List ℕ) (r : ℕ) (lo : 8000 ≤ r) (hi : r ≤ 192000) (fe
   inside : (n count L j : ℕ) → n + count ≤ L → j < count → n + j < L
   inside n count L j h l = omega arith
 
-  pub dial-tone-run : (k n left count : ℕ) → samples_before stage.DialTone r d + n ≡ k → n + count ≤ samples_in one r → Some left count → IsRun digits r k left (dial_tone_run n count)
+  pub dial-tone-run : (k n left count : ℕ) → samples_before stage.DialTone r d + n ≡ k → n + count ≤ samples_in one r → Room left count → IsRun digits r k left (dial_tone_run n count)
   dial-tone-run k n left count e h S = record {
     room = S;
     audible = (lit< tt, lit< tt);
     sound = λ j l. ap (sound_after digits r) (sym (placed _ n k j e)) ∙ dial-tone-sound digits r lo hi few (n + j) (inside n count _ j h l);
-    heard-alike = λ j l. ap (heard (Tones 350 450) r) (ap (steps_after digits r) (sym (placed _ n k j e)) ∙ dial-tone-steps digits r lo hi few (n + j) (inside n count _ j h l));
+    heard-alike = λ j l. ap (heard (sounding_tones 350 450) r) (ap (steps_after digits r) (sym (placed _ n k j e)) ∙ dial-tone-steps digits r lo hi few (n + j) (inside n count _ j h l));
   }
 
   -- where nothing sounds, no step matters
-  by-sound : (sound : Sound) (a b : ℕ) → ((low high : ℕ) → sound ≡ Tones low high → a ≡ b) → heard sound r a ≡ heard sound r b
-  by-sound Silent a b h = refl
-  by-sound (Tones low high) a b h = ap (heard (Tones low high) r) (h low high refl)
+  by-sound : (sound : Sound) (a b : ℕ) → ((tones : Tones) → sound ≡ Some tones → a ≡ b) → heard sound r a ≡ heard sound r b
+  by-sound None a b h = refl
+  by-sound (Some tones) a b h = ap (heard (Some tones) r) (h tones refl)
 
   module _ (k n least left : ℕ) (run : Run) where
-    pub dialling-run : samples_before stage.Dialling r d + n ≡ k → n + run.count ≤ dialling_length r d → DialledRun digits r n least run → Some left run.count → IsRun digits r k left run
+    pub dialling-run : samples_before stage.Dialling r d + n ≡ k → n + run.count ≤ dialling_length r d → DialledRun digits r n least run → Room left run.count → IsRun digits r k left run
     dialling-run e h R S = record {
       room = S;
       audible = subst Audible (sym R.sound) (key-audible (dialled_key digits (digit_after r n) (in_tone (time_at r n))));
       sound = sound;
-      heard-alike = λ j l. by-sound run.sound _ _ (λ low high q. steps (steps_after digits r (k + j)) run.steps (samples_of_digits r (digit_after r n)) j R.steps (sounded j l low high q));
+      heard-alike = λ j l. by-sound run.sound _ _ (λ tones q. steps (steps_after digits r (k + j)) run.steps (samples_of_digits r (digit_after r n)) j R.steps (sounded j l tones q));
     }
       where
         sound : (j : ℕ) → j < run.count → sound_after digits r (k + j) ≡ run.sound
@@ -159,26 +160,26 @@ module _ (digits : List ℕ) (r : ℕ) (lo : 8000 ≤ r) (hi : r ≤ 192000) (fe
             ∙ dialling-sound digits r lo hi few (n + j) (inside n _ _ j h l)
             ∙ rw (R.digit-stays j l, R.tone-stays j l) (sym R.sound)
 
-        sounded : (j : ℕ) → j < run.count → (low high : ℕ) → run.sound ≡ Tones low high → steps_after digits r (k + j) + samples_of_digits r (digit_after r n) ≡ n + j
-        sounded j l low high q =
+        sounded : (j : ℕ) → j < run.count → (tones : Tones) → run.sound ≡ Some tones → steps_after digits r (k + j) + samples_of_digits r (digit_after r n) ≡ n + j
+        sounded j l tones q =
             rw (← R.digit-stays j l, ← placed _ n k j e)
-            (dialling-steps digits r lo hi few (n + j) (inside n _ _ j h l) low high (ap (sound_after digits r) (placed _ n k j e) ∙ sound j l ∙ q))
+            (dialling-steps digits r lo hi few (n + j) (inside n _ _ j h l) tones (ap (sound_after digits r) (placed _ n k j e) ∙ sound j l ∙ q))
 
         steps : (a s x j : ℕ) → s + x ≡ n → a + x ≡ n + j → a ≡ s + j
         steps a s x j f g = omega arith
 
-    pub ringback-run : samples_before stage.Ringback r d + n ≡ k → n + run.count ≤ samples_in ringback_time r → RungRun r n least run → Some left run.count → IsRun digits r k left run
+    pub ringback-run : samples_before stage.Ringback r d + n ≡ k → n + run.count ≤ samples_in ringback_time r → RungRun r n least run → Room left run.count → IsRun digits r k left run
     ringback-run e h R S = record {
       room = S;
       audible = subst Audible (sym R.sound) (ring-audible (rings_at r n));
       sound = λ j l. ap (sound_after digits r) (sym (placed _ n k j e)) ∙ ringback-sound digits r lo hi few (n + j) (inside n _ _ j h l) ∙ ap ring_sound (R.stays j l) ∙ sym R.sound;
-      heard-alike = λ j l. by-sound run.sound _ _ (λ low high q.
+      heard-alike = λ j l. by-sound run.sound _ _ (λ tones q.
           ap (steps_after digits r) (sym (placed _ n k j e))
           ∙ ringback-steps digits r lo hi few (n + j) (inside n _ _ j h l)
-          ∙ rung-more r n j true (λ i m. R.stays i (le_trans m (le_of_lt l)) ∙ rings (rings_at r n) low high (sym R.sound ∙ q))
+          ∙ rung-more r n j true (λ i m. R.stays i (le_trans m (le_of_lt l)) ∙ rings (rings_at r n) tones (sym R.sound ∙ q))
           ∙ ap (λ (x : ℕ). x + j) (sym R.steps));
     }
       where
-        rings : (b : Bool) (low high : ℕ) → ring_sound b ≡ Tones low high → b ≡ true
-        rings true low high e = refl
-        rings false low high e = absurd (not-silent low high e)
+        rings : (b : Bool) (tones : Tones) → ring_sound b ≡ Some tones → b ≡ true
+        rings true tones e = refl
+        rings false tones e = cc

@@ -26,7 +26,7 @@ module _ (b e L k left m : ℕ) (ends : b + L ≡ e) (from : b ≤ k) (to : k < 
   some : 0 < e - k
   some = omega arith
 
-module _ (digits : List ℕ) (r : ℕ) (edges : Edges) (left : ℕ) (P : Placed digits r edges left) (place : ℕ) where
+module _ (digits : List ℕ) (r : ℕ) (edges : Edges) (left : ℕ) (P : Placed digits r edges left) (lo : 8000 ≤ r) (hi : r ≤ 192000) (few : length digits ≤ 76) (place : ℕ) where
   abbrev d : ℕ
   d = length digits
 
@@ -57,7 +57,7 @@ module _ (digits : List ℕ) (r : ℕ) (edges : Edges) (left : ℕ) (P : Placed 
 
   pub early-placed : place < edges.tone → (m : ℕ) → Least (edges.tone - place) left m → IsRun digits r place left (silent_run m)
   early-placed to m least =
-      early-run digits r P.slow P.fast P.few place left m
+      early-run digits r lo hi few place left m
       (le_trans (fits edges.tone to least.few) (le_of_eq tone-is)) (all_of (edges.tone - place) left m least (positive edges.tone to))
     where
       fits : (e : ℕ) → place < e → m ≤ e - place → place + m ≤ e
@@ -67,7 +67,7 @@ module _ (digits : List ℕ) (r : ℕ) (edges : Edges) (left : ℕ) (P : Placed 
       positive e h = omega arith
 
   pub late-placed : edges.end ≤ place → IsRun digits r place left (silent_run left)
-  late-placed from = late-run digits r P.slow P.fast P.few place left left (le_trans (le_of_eq (sym end_is)) from) (record { some = λ h. h; fits = le_trans (le_of_eq refl) (same left) })
+  late-placed from = late-run digits r lo hi few place left left (le_trans (le_of_eq (sym end_is)) from) (record { some = λ h. h; fits = le_trans (le_of_eq refl) (same left) })
     where
       same : (n : ℕ) → n ≤ n
       same n = omega arith
@@ -75,7 +75,7 @@ module _ (digits : List ℕ) (r : ℕ) (edges : Edges) (left : ℕ) (P : Placed 
   module _ (from : edges.tone ≤ place) (to : place < edges.dial) (m : ℕ) (least : Least (edges.dial - place) left m) where
     pub dial-tone-placed : IsRun digits r place left (dial_tone_run (place - edges.tone) m)
     dial-tone-placed =
-        dial-tone-run digits r P.slow P.fast P.few place (place - edges.tone) left m
+        dial-tone-run digits r lo hi few place (place - edges.tone) left m
         (ap (λ (b : ℕ). b + (place - edges.tone)) (sym tone-is) ∙ placed _ _ _ place left m tone-ends from to least)
         (inside _ _ _ place left m tone-ends from to least m (same m))
         (all_of (edges.dial - place) left m least (some _ _ _ place left m tone-ends from to least))
@@ -89,7 +89,7 @@ module _ (digits : List ℕ) (r : ℕ) (edges : Edges) (left : ℕ) (P : Placed 
 
     pub dialling-placed : (run : Run) → DialledRun digits r (place - edges.dial) m run → IsRun digits r place left run
     dialling-placed run R =
-        dialling-run digits r P.slow P.fast P.few place (place - edges.dial) m left run
+        dialling-run digits r lo hi few place (place - edges.dial) m left run
         (ap (λ (b : ℕ). b + (place - edges.dial)) (sym dial-is) ∙ placed _ _ _ place left m dial-ends from to least)
         (inside _ _ _ place left m dial-ends from to least run.count R.room.fits)
         R
@@ -98,14 +98,14 @@ module _ (digits : List ℕ) (r : ℕ) (edges : Edges) (left : ℕ) (P : Placed 
   module _ (from : edges.ring ≤ place) (to : place < edges.end) (m : ℕ) (least : Least (edges.end - place) left m) where
     pub ringback-asks : (place - edges.ring ≤ 768000) × (0 < m) × (m ≤ 65536)
     ringback-asks = (
-      le_trans (le_of_lt (before _ _ _ place left m ring-ends from to least)) (ringback-range r P.slow P.fast).1,
+      le_trans (le_of_lt (before _ _ _ place left m ring-ends from to least)) (ringback-range r lo hi).1,
       least.some (some _ _ _ place left m ring-ends from to least) P.some,
       le_trans least.fits P.short,
     )
 
     pub ringback-placed : (run : Run) → RungRun r (place - edges.ring) m run → IsRun digits r place left run
     ringback-placed run R =
-        ringback-run digits r P.slow P.fast P.few place (place - edges.ring) m left run
+        ringback-run digits r lo hi few place (place - edges.ring) m left run
         (ap (λ (b : ℕ). b + (place - edges.ring)) (sym ring-is) ∙ placed _ _ _ place left m ring-ends from to least)
         (inside _ _ _ place left m ring-ends from to least run.count R.room.fits)
         R

@@ -3,6 +3,8 @@
 use Rattle.std.proofs.Common.{◌≡◌, ℕ, suc, ◌+◌, ◌*◌, ◌<◌, ◌≤◌, true, false, cond, eqb, List, length, get_or, replicate, ℤ, pos, Bor, MutBor}
 use contract.Lifetimes.{Lfts}
 use denote.Ref.{at_last}
+use Rattle.refusal.specs.declared.Refusal.{Refusal}
+use Rattle.refusal.specs.Refusal.{answer_number}
 use Rattle.math.specs.Float.{zero}
 use Rattle.nco.specs.declared.Nco.{Nco}
 use Rattle.keys.specs.Keys.{digits_of, all_keys}
@@ -17,19 +19,19 @@ use Rattle.handset.specs.Wave.{wave}
 use Rattle.handset.specs.Sound.{sound_of, takes_fresh, state_after, samples_after}
 use Rattle.handset.specs.Call.{earpiece_refusal}
 use Rattle.passage.specs.Overture.{HasLength}
-use Rattle.handset.specs.declared.Sound.TheVariants.{Silent}
+use Rattle.std.specs.Prelude.{Result, None}
 use Rattle.handset.specs.Float.{is_sounding, Holds, FloatEdges}
 use Rattle.handset.proofs.Entries.{right}
 use Rattle.handset.proofs.Float.{float-edges}
 use Rattle.handset.proofs.earpiece.Reads as earpiece
 
 -- ---- the call, for every byte slice, rate, count and buffer
-module _ (κs : Lfts 2) (digits : Bor (List ℕ)) (rate pass : ℕ) (out : MutBor (List ℤ)) (left : List ℤ) (number : ℕ)
-    (d : earpiece.Learnt κs (digits, (rate, (pass, (out, tt)))) number (digits, (rate, (pass, (at_last out left, tt))))) where
-  pub declines : number ≡ earpiece_refusal (length digits.now) rate (length out.now)
+module _ (κs : Lfts 2) (digits : Bor (List ℕ)) (rate pass : ℕ) (out : MutBor (List ℤ)) (left : List ℤ) (answer : Result (Unit {0}) Refusal)
+    (d : earpiece.Learnt κs (digits, (rate, (pass, (out, tt)))) answer (digits, (rate, (pass, (at_last out left, tt))))) where
+  pub declines : answer_number answer ≡ earpiece_refusal (length digits.now) rate (length out.now)
   declines = d.refusal
 
-  pub writes : left ≡ cond (eqb number 0) (samples_after (digits_of digits.now) rate pass (length out.now)) out.now
+  pub writes : left ≡ cond (eqb (answer_number answer) 0) (samples_after (digits_of digits.now) rate pass (length out.now)) out.now
   writes = d.buffer
 
 -- ---- entry k of the table, at each fraction in pi's place and each sum from degree 25 on
@@ -72,10 +74,10 @@ module _ (digits : List ℕ) (r : ℕ) (slow : 8000 ≤ r) (fast : r ≤ 192000)
   pub ends-at-T : HasLength digits r (total r (length digits))
   ends-at-T = edges.ends
 
-  pub silent-before : stage_number (stage_of s) ≤ 1 → sound_of s digits r ≡ Silent
+  pub silent-before : stage_number (stage_of s) ≤ 1 → sound_of s digits r ≡ None
   silent-before = edges.other k
 
-  pub silent-behind : 5 ≤ stage_number (stage_of s) → sound_of s digits r ≡ Silent
+  pub silent-behind : 5 ≤ stage_number (stage_of s) → sound_of s digits r ≡ None
   silent-behind = edges.later k
 
   pub starts-at-zero : Holds t a b → takes_fresh s t ≡ true → (a.phase ≡ zero) × (b.phase ≡ zero)

@@ -1,6 +1,6 @@
 -- The float overture, stage by stage: what sounds after n samples of a stage, and how many samples have sounded since its last fresh oscillators.
 -- The stages' own laws say which state a sample is made from; the steps follow by induction on the samples. Assumes nothing.
-use Rattle.std.proofs.Common.{◌≡◌, ℕ, zero, suc, ◌+◌, ◌^◌, ◌<◌, ◌≤◌, Bool, true, false, ◌&&◌, eqb, List, [], ◌∷◌, length, sym, refl, ap, ◌∙◌, subst, true≢false, le_trans, le_of_eq, lt_of_lt_of_le, le_of_suc-le-suc, not-suc-le-zero, lt_of_le_of_lt, add-zero, le_of_lt, add-suc, zero-lt-suc, arith, lit<, lit≤, ne_eqb, eqb-true}
+use Rattle.std.proofs.Common.{◌≡◌, ℕ, zero, suc, ◌+◌, ◌^◌, ◌<◌, ◌≤◌, Bool, true, false, ◌&&◌, eqb, List, [], ◌∷◌, length, sym, refl, ap, ◌∙◌, subst, le_trans, le_of_eq, lt_of_lt_of_le, le_of_suc-le-suc, not-suc-le-zero, lt_of_le_of_lt, add-zero, le_of_lt, add-suc, zero-lt-suc, arith, lit<, lit≤, ne_eqb, eqb-true}
 use Rattle.math.specs.Float.{one, of_nat}
 use Rattle.nco.specs.declared.Nco.{Nco}
 use Rattle.nco.specs.Nco.{fresh_nco}
@@ -21,9 +21,10 @@ use Rattle.passage.proofs.Stages.{never-falls}
 use Rattle.passage.proofs.Counted.{HasCount, dial_tone, ringback, dial-tone-lasts, ringback-lasts}
 use Rattle.passage.proofs.Dialling.{no-time, digit-first, tone-first, some-digits-last}
 use Rattle.passage.proofs.Overture.{after-entry, stage_at_lem, not_after, stage-some}
-use Rattle.handset.specs.declared.Sound.{Sound}
-use Rattle.handset.specs.declared.Sound.TheVariants.{Silent, Tones}
-use Rattle.handset.specs.Sound.{key_sound, ring_sound, sound_of, takes_fresh, state_after, sound_after, sounding, steps_after}
+use Rattle.std.specs.Prelude.{Some, None}
+use Rattle.handset.specs.declared.Tones.{Tones}
+use Rattle.handset.specs.Sound.{Sound}
+use Rattle.handset.specs.Sound.{sounding_tones, key_sound, ring_sound, sound_of, takes_fresh, state_after, sound_after, sounding, steps_after}
 use Rattle.handset.specs.Runs.{count_if, rings_at, rung_before}
 use Rattle.handset.proofs.Digits.{tone-begins}
 
@@ -43,7 +44,7 @@ unfolding takes_fresh
 other-stage s t h = rw (ne_eqb (stage_number (stage_of s)) (stage_number (stage_of t)) (λ e. omega arith))
 
 -- in the stages that are none of the three, nothing sounds
-pub silent-stage : (s : StageState) (digits : List ℕ) (r : ℕ) → (stage_number (stage_of s) ≤ 1) → sound_of s digits r ≡ Silent
+pub silent-stage : (s : StageState) (digits : List ℕ) (r : ℕ) → (stage_number (stage_of s) ≤ 1) → sound_of s digits r ≡ None
 unfolding sound_of
 silent-stage (OffHook rng n) digits r h = refl
 silent-stage (DialTone a b n) digits r h = absurd (omega arith)
@@ -56,7 +57,7 @@ silent-stage (Cj f z) digits r h = refl
 silent-stage (Training f) digits r h = refl
 silent-stage Connected digits r h = refl
 
-pub late-stage : (s : StageState) (digits : List ℕ) (r : ℕ) → (5 ≤ stage_number (stage_of s)) → sound_of s digits r ≡ Silent
+pub late-stage : (s : StageState) (digits : List ℕ) (r : ℕ) → (5 ≤ stage_number (stage_of s)) → sound_of s digits r ≡ None
 unfolding sound_of
 late-stage (OffHook rng n) digits r h = refl
 late-stage (DialTone a b n) digits r h = absurd (omega arith)
@@ -101,27 +102,20 @@ dials (x ∷ xs) r lo hi few n h =
     record { a = at.dial.a; b = at.dial.b; state = at.state ∙ rw (at.pair.digit, at.pair.tone) }
 
 -- what sounds is in tone
-pub not-silent : (low high : ℕ) → Silent ≡ Tones low high → ⊥
-not-silent low high e = true≢false (ap is_silent e)
-  where
-    is_silent : Sound → Bool
-    is_silent Silent = true
-    is_silent (Tones low high) = false
-
-in-tone-of : (digits : List ℕ) (i : ℕ) (on : Bool) (low high : ℕ) → key_sound (dialled_key digits i on) ≡ Tones low high → on ≡ true
+in-tone-of : (digits : List ℕ) (i : ℕ) (on : Bool) (tones : Tones) → key_sound (dialled_key digits i on) ≡ Some tones → on ≡ true
 unfolding dialled_key
-in-tone-of digits i true low high e = refl
-in-tone-of digits i false low high e = absurd (not-silent low high e)
+in-tone-of digits i true tones e = refl
+in-tone-of digits i false tones e = cc
 
 module _ (digits : List ℕ) (r : ℕ) (lo : 8000 ≤ r) (hi : r ≤ 192000) (few : length digits ≤ 76) where
   abbrev d : ℕ
   d = length digits
 
   -- ---- before dial tone, and after Ringback
-  pub silent-before : (k : ℕ) → k < samples_before stage.DialTone r d → sound_after digits r k ≡ Silent
+  pub silent-before : (k : ℕ) → k < samples_before stage.DialTone r d → sound_after digits r k ≡ None
   silent-before k h = silent-stage (state_after digits r k) digits r (not_after digits r lo hi few stage.OffHook (lit≤ tt) k h)
 
-  pub silent-after : (k : ℕ) → samples_before stage.Ci r d ≤ k → sound_after digits r k ≡ Silent
+  pub silent-after : (k : ℕ) → samples_before stage.Ci r d ≤ k → sound_after digits r k ≡ None
   silent-after k h =
       late-stage (state_after digits r k) digits r
       (le_trans (le_of_eq (sym (ap stage_number (stage_at_lem digits r lo hi few stage.Ci 0 (stage-some r lo hi d few stage.Ci (lit≤ tt))))))
@@ -148,7 +142,7 @@ module _ (digits : List ℕ) (r : ℕ) (lo : 8000 ≤ r) (hi : r ≤ 192000) (fe
   pub dial-tone-state : (n : ℕ) → n < samples_in one r → HasCount dial_tone n (state_after digits r (samples_before stage.DialTone r d + n))
   dial-tone-state n h = subst (HasCount dial_tone n) (sym (after-entry digits r lo hi few stage.DialTone n)) ((dial-tone-lasts digits r lo hi).during n h)
 
-  pub dial-tone-sound : (n : ℕ) → n < samples_in one r → sound_after digits r (samples_before stage.DialTone r d + n) ≡ Tones 350 450
+  pub dial-tone-sound : (n : ℕ) → n < samples_in one r → sound_after digits r (samples_before stage.DialTone r d + n) ≡ sounding_tones 350 450
   unfolding sound_of
   dial-tone-sound n h = ap (λ (s : StageState). sound_of s digits r) (dial-tone-state n h).1
 
@@ -193,12 +187,12 @@ module _ (digits : List ℕ) (r : ℕ) (lo : 8000 ≤ r) (hi : r ≤ 192000) (fe
   dialling-sound n h = ap (λ (s : StageState). sound_of s digits r) (dialling-state n h).state
 
   -- in tone, what has sounded are the samples since the digit's first
-  pub dialling-steps : (n : ℕ) → n < dialling_length r d → (low high : ℕ) → sound_after digits r (dialling n) ≡ Tones low high
+  pub dialling-steps : (n : ℕ) → n < dialling_length r d → (tones : Tones) → sound_after digits r (dialling n) ≡ Some tones
       → steps_after digits r (dialling n) + samples_of_digits r (digit_after r n) ≡ n
   unfolding samples_before sound_of takes_fresh
-  dialling-steps zero h low high e =
+  dialling-steps zero h tones e =
       rw (add-zero, begins-fresh stage.DialTone (lit≤ tt) (lit< tt) (lit≤ tt) (omega (arith, click-some)), no-time r lo hi, digit-first)
-  dialling-steps (suc n) h low high e = go (eqb (digit_after r n) (digit_after r (suc n))) (in_tone (time_at r n)) refl refl (dialling-steps n (le_of_lt h) low high)
+  dialling-steps (suc n) h tones e = go (eqb (digit_after r n) (digit_after r (suc n))) (in_tone (time_at r n)) refl refl (dialling-steps n (le_of_lt h) tones)
     where
       here : Dials r n (state_after digits r (dialling n))
       here = dialling-state n (le_of_lt h)
@@ -207,7 +201,7 @@ module _ (digits : List ℕ) (r : ℕ) (lo : 8000 ≤ r) (hi : r ≤ 192000) (fe
       next = subst (λ (k : ℕ). Dials r (suc n) (state_after digits r k)) (add-suc (samples_before stage.Dialling r d) n) (dialling-state (suc n) h)
 
       on : in_tone (time_at r (suc n)) ≡ true
-      on = in-tone-of digits (digit_after r (suc n)) (in_tone (time_at r (suc n))) low high (sym (dialling-sound (suc n) h) ∙ e)
+      on = in-tone-of digits (digit_after r (suc n)) (in_tone (time_at r (suc n))) tones (sym (dialling-sound (suc n) h) ∙ e)
 
       short : suc n ≤ 2 ^ 32
       short = le_trans (le_of_lt h) (le_trans (dialling-range r lo hi d few).1 (lit≤ tt))
@@ -226,11 +220,11 @@ module _ (digits : List ℕ) (r : ℕ) (lo : 8000 ≤ r) (hi : r ≤ 192000) (fe
           (tone-begins r lo hi n short (digit-few r lo hi d few (suc n) h) on new)
 
       go : (a b : Bool) → eqb (digit_after r n) (digit_after r (suc n)) ≡ a → in_tone (time_at r n) ≡ b
-          → (sound_after digits r (dialling n) ≡ Tones low high → steps_after digits r (dialling n) + samples_of_digits r (digit_after r n) ≡ n)
+          → (sound_after digits r (dialling n) ≡ Some tones → steps_after digits r (dialling n) + samples_of_digits r (digit_after r n) ≡ n)
           → steps_after digits r (dialling (suc n)) + samples_of_digits r (digit_after r (suc n)) ≡ suc n
       go true true ea eb before =
           let same : digit_after r n ≡ digit_after r (suc n) = eqb-true (digit_after r n) (digit_after r (suc n)) ea in
-          let heard : sound_after digits r (dialling n) ≡ Tones low high =
+          let heard : sound_after digits r (dialling n) ≡ Some tones =
           dialling-sound n (le_of_lt h)
           ∙ ap (λ (i : ℕ). key_sound (dialled_key digits i (in_tone (time_at r n)))) same
           ∙ ap (λ (b : Bool). key_sound (dialled_key digits (digit_after r (suc n)) b)) (eb ∙ sym on)

@@ -1,17 +1,15 @@
 -- 02, E14: "A new call takes E4's arguments, a count of samples to pass over and a lent buffer, and writes the samples that follow, 0 past T; it
 -- declines as E4 does, then with 3 as a fill."
-use Rattle.std.specs.Prelude.{◌≡◌, ℕ, Bool, cond, List, length, ℤ, ◌==◌, nat_lt}
+use Rattle.std.specs.Prelude.{◌≡◌, ℕ, Bool, cond, List, length, ℤ, ◌==◌, nat_lt, Result, Ok, Err}
 use Rattle.keys.specs.Keys.{digits_of}
-use Rattle.plan.specs.declared.Refusal.{Refusal}
-use Rattle.plan.specs.declared.Refusal.TheVariants.{Accepted, Rate, Digits}
+use Rattle.refusal.specs.declared.Refusal.{Refusal}
 use Rattle.plan.specs.Plan.{plan_refusal_number, plan_cause}
 use Rattle.handset.specs.Sound.{samples_after}
 
 -- 1, then 10, then 3 for more than 65,536 samples
-abbrev pub earpiece_refusal_by : Refusal → (long : Bool) → ℕ
-earpiece_refusal_by Accepted long = cond long 3 0
-earpiece_refusal_by Rate long = plan_refusal_number Rate
-earpiece_refusal_by Digits long = plan_refusal_number Digits
+abbrev pub earpiece_refusal_by : Result (Unit {0}) Refusal → (long : Bool) → ℕ
+earpiece_refusal_by (Ok accepted) long = cond long 3 0
+earpiece_refusal_by (Err refusal) long = plan_refusal_number (Err refusal)
 
 unfoldable pub earpiece_refusal : (len r room : ℕ) → ℕ
 earpiece_refusal len r room = earpiece_refusal_by (plan_cause len r) (nat_lt 65536 room)

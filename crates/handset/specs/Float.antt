@@ -1,7 +1,7 @@
 -- 02, E14: "Stage edges and T are the float overture's at every rate". The state that a sample is made from is one and the same here and there; and of the
 -- stages that sound, tone and gap are the same too: the float sample is its two oscillators' mix where something sounds here, and 0.0 where nothing does.
 -- And the phases start and step with those two oscillators.
-use Rattle.std.specs.Prelude.{◌≡◌, ℕ, suc, ◌≤◌, Bool, true, false, List, replicate, pos}
+use Rattle.std.specs.Prelude.{◌≡◌, ℕ, suc, ◌≤◌, Bool, true, false, List, replicate, pos, Some, None}
 use Rattle.math.specs.Float.{zero}
 use Rattle.nco.specs.declared.Nco.{Nco}
 use Rattle.tones.specs.Mixed.{gated_of}
@@ -10,13 +10,11 @@ use Rattle.stage.specs.declared.StageState.TheVariants.{OffHook, DialTone, Diall
 use Rattle.stage.specs.Stage.{stage_number, stage_of}
 use Rattle.stage.specs.Next.{sample_next}
 use Rattle.passage.specs.Overture.{HasLength}
-use Rattle.handset.specs.declared.Sound.{Sound}
-use Rattle.handset.specs.declared.Sound.TheVariants.{Silent, Tones}
-use Rattle.handset.specs.Sound.{takes_fresh, state_after, sound_after, samples_after}
+use Rattle.handset.specs.Sound.{Sound, takes_fresh, state_after, sound_after, samples_after}
 
 abbrev pub is_sounding : Sound → Bool
-is_sounding Silent = false
-is_sounding (Tones low high) = true
+is_sounding None = false
+is_sounding (Some tones) = true
 
 -- the two oscillators that a state of stages 2 to 4 holds
 abbrev pub Holds : StageState → (a b : Nco) → Type 0
@@ -49,6 +47,6 @@ pub record FloatEdges (digits : List ℕ) (r T : ℕ) : Type 0 where
   pub ends : HasLength digits r T
   pub gate : (k : ℕ) → 2 ≤ stage_number (stage_of (state_after digits r k)) → stage_number (stage_of (state_after digits r k)) ≤ 4 → SameGate digits r k
   pub steps : (k : ℕ) (a b : Nco) → Holds (state_after digits r (suc k)) a b → SameSteps digits r k a b
-  pub other : (k : ℕ) → (stage_number (stage_of (state_after digits r k)) ≤ 1) → sound_after digits r k ≡ Silent
-  pub later : (k : ℕ) → 5 ≤ stage_number (stage_of (state_after digits r k)) → sound_after digits r k ≡ Silent
+  pub other : (k : ℕ) → (stage_number (stage_of (state_after digits r k)) ≤ 1) → sound_after digits r k ≡ None
+  pub later : (k : ℕ) → 5 ≤ stage_number (stage_of (state_after digits r k)) → sound_after digits r k ≡ None
   pub past : (pass n : ℕ) → T ≤ pass → samples_after digits r pass n ≡ replicate n (pos 0)

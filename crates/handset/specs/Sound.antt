@@ -9,32 +9,38 @@ use Rattle.stage.specs.declared.StageState.{StageState}
 use Rattle.stage.specs.declared.StageState.TheVariants.{OffHook, DialTone, Dialling, Ringback, Ci, Ansam, CmJm, Cj, Training, Connected}
 use Rattle.stage.specs.Stage.{stage_number, stage_of, key_of}
 use Rattle.overture.specs.Iteration.{fresh, after}
-use Rattle.handset.specs.declared.Sound.{Sound}
-use Rattle.handset.specs.declared.Sound.TheVariants.{Silent, Tones}
+use Rattle.handset.specs.declared.Tones.{Tones}
 use Rattle.handset.specs.Tone.{step_of, phase_after, mixed_at}
+
+-- what a sample sounds: two tones of so many hertz, or nothing
+abbrev pub Sound : Type 0
+Sound = Option Tones
+
+abbrev pub sounding_tones : (low high : ℕ) → Sound
+sounding_tones low high = Some (record { low = low; high = high })
 
 -- a key sounds its row's and its column's tone; none is a gap, or no digit at all
 abbrev pub key_sound : Option Key → Sound
-key_sound (Some key) = Tones (slice_index rows key.row) (slice_index columns key.column)
-key_sound None = Silent
+key_sound (Some key) = sounding_tones (slice_index rows key.row) (slice_index columns key.column)
+key_sound None = None
 
 -- 01, "Stages", 4: 400 and 450 in tone
 abbrev pub ring_sound : Bool → Sound
-ring_sound true = Tones 400 450
-ring_sound false = Silent
+ring_sound true = sounding_tones 400 450
+ring_sound false = None
 
 -- what the next sample of a state sounds
 unfoldable pub sound_of : StageState → List ℕ → ℕ → Sound
-sound_of (OffHook rng n) digits r = Silent
-sound_of (DialTone a b n) digits r = Tones 350 450
+sound_of (OffHook rng n) digits r = None
+sound_of (DialTone a b n) digits r = sounding_tones 350 450
 sound_of (Dialling i on a b n) digits r = key_sound (key_of (Dialling i on a b n) digits)
 sound_of (Ringback a b n ring) digits r = ring_sound (ring_tone (ring_time (time_at r n)))
-sound_of (Ci f) digits r = Silent
-sound_of (Ansam c e n) digits r = Silent
-sound_of (CmJm f) digits r = Silent
-sound_of (Cj f z) digits r = Silent
-sound_of (Training f) digits r = Silent
-sound_of Connected digits r = Silent
+sound_of (Ci f) digits r = None
+sound_of (Ansam c e n) digits r = None
+sound_of (CmJm f) digits r = None
+sound_of (Cj f z) digits r = None
+sound_of (Training f) digits r = None
+sound_of Connected digits r = None
 
 -- ---- fresh oscillators
 -- the digit and the tone that a state of Dialling holds
@@ -80,8 +86,8 @@ sound_after digits r k = sound_of (state_after digits r k) digits r
 
 -- a phase "steps after a sample where 01's does": in tone
 abbrev pub sounding : Sound → ℕ → ℕ
-sounding Silent steps = steps
-sounding (Tones low high) steps = suc steps
+sounding None steps = steps
+sounding (Some tones) steps = suc steps
 
 abbrev pub steps_by : (takes-fresh : Bool) → Sound → ℕ → ℕ
 steps_by true sound steps = 0
@@ -94,8 +100,8 @@ steps_after digits r (suc k) = steps_by (takes_fresh (state_after digits r k) (s
 
 -- a sample, after so many steps of its phases
 abbrev pub heard : Sound → ℕ → ℕ → ℤ
-heard Silent r steps = pos 0
-heard (Tones low high) r steps = mixed_at (phase_after (step_of low r) steps) (phase_after (step_of high r) steps)
+heard None r steps = pos 0
+heard (Some tones) r steps = mixed_at (phase_after (step_of tones.low r) steps) (phase_after (step_of tones.high r) steps)
 
 -- the wave, k samples after its first
 unfoldable pub sample_after : List ℕ → ℕ → ℕ → ℤ

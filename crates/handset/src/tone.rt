@@ -1,10 +1,12 @@
 // Two tones in whole numbers: the wave, the phases that pick its entries, and their samples mixed.
-ghost use Rattle.std.specs.Prelude.{◌≡◌, ◌/◌, ◌^◌, ◌<◌, ◌≤◌, length};
-ghost use Rattle.handset.specs.declared.Sound.TheVariants.{Tones};
+ghost use Rattle.std.specs.Prelude.{◌≡◌, ◌/◌, ◌^◌, ◌<◌, length, Some};
 ghost use Rattle.handset.specs.Rule.{IsSine};
 ghost use Rattle.handset.specs.Wave.{wave};
 ghost use Rattle.handset.specs.Tone.{step_of, phase_after, entry_at, tone_at, mixed_at};
-ghost use Rattle.handset.specs.Runs.{heard_from};
+ghost use Rattle.handset.specs.Runs.{Audible, heard_from};
+
+use crate::Tones;
+use schedule::Rate;
 
 // A full turn: 32,767 times the sine, to within one.
 const WAVE: [i32; 1024] = [
@@ -91,11 +93,11 @@ const WAVE: [i32; 1024] = [
 ];
 
 // What a phase moves by at each sample.
-fn step(hertz: u32, rate: u32) -> u32
-    requires { (hertz < 8000) × (8000 ≤ rate) }
-    ensures { result ≡ step_of hertz rate }
+fn step(hertz: u32, rate: Rate) -> u32
+    requires { hertz < 8000 }
+    ensures { result ≡ step_of hertz rate.hertz }
 {
-    ((hertz as u64) * 4294967296 / (rate as u64)) as u32
+    ((hertz as u64) * 4294967296 / (rate.hertz as u64)) as u32
 }
 
 // The phase after so many steps from 0, at once.
@@ -133,21 +135,18 @@ fn mix(table: &[i32; 1024], low: u32, high: u32) -> i16
 }
 
 // Two tones over a buffer, after so many steps of their phases.
-pub fn play(low: u32, high: u32, rate: u32, steps: u32, out: &mut [i16])
-    requires { (low < 8000) × (high < 8000) × (8000 ≤ rate) }
-    ensures { out.new ≡ heard_from (Tones low high) rate steps (length out.old) }
+pub fn play(tones: Tones, rate: Rate, steps: u32, out: &mut [i16])
+    requires { Audible (Some tones) }
+    ensures { out.new ≡ heard_from (Some tones) rate.hertz steps (length out.old) }
 {
     let table = WAVE;
-    let s = step(low, rate);
-    let t = step(high, rate);
+    let s = step(tones.low, rate);
+    let t = step(tones.high, rate);
     let mut a = phase(s, steps);
     let mut b = phase(t, steps);
-    let mut i: usize = 0;
-    while i < out.len() {
-        let x = mix(&table, a, b);
-        out[i] = x;
-        a = std::num::wrapping_add_u32(a, s);
-        b = std::num::wrapping_add_u32(b, t);
-        i += 1;
+    for sample in out.iter_mut() {
+        *sample = mix(&table, a, b);
+        a = a.wrapping_add(s);
+        b = b.wrapping_add(t);
     }
 }

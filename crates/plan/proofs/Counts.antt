@@ -2,22 +2,24 @@
 use mathlib.Core.Path.{◌≡◌, refl, ap}
 use mathlib.Core.Bool.{Bool, true, false, ◌&&◌, and-eq-true_iff}
 use mathlib.Core.List.{List}
-use Prim.Native.Nat.{ℕ, zero, suc, ◌+◌, ◌-◌, ◌≤◌, ◌<◌, zero-le}
+use Prim.Native.Nat.{ℕ, zero, suc, ◌-◌, ◌≤◌, ◌<◌, zero-le}
 use native.Mathlib.Nat.{le_trans, le_of_eq, zero-lt-suc}
 use native.Mathlib.Omega.{arith}
 use lib.Dec.{leb}
-use lib.ListN.{length, get_or, replicate, get_or-eq_default}
-use borrow.Author.Tests.{leb-true, leb-false, le-leb}
-use Rattle.keys.specs.Keys.{digits_of, dialled_of}
-use Rattle.keys.proofs.Line.{digits-fewer, digits-whole}
+use lib.ListN.{length, get_or, get_or-eq_default}
+use Rattle.std.specs.Prelude.{Result, Ok, Err, sum}
+use borrow.Author.Tests.{leb-true, le-leb, lt-leb}
+use Rattle.schedule.specs.Rate.{is_rate}
+use Rattle.refusal.specs.declared.Refusal.TheVariants.{Rate, Digits}
+use Rattle.keys.specs.Keys.{digits_of}
+use Rattle.keys.proofs.Line.{digits-fewer}
 use Rattle.schedule.specs.Time.{min_rate, max_rate}
 use Rattle.schedule.specs.Length.{max_digits, dialling_length, dialling_samples, total}
 use Rattle.schedule.proofs.Total.{total-bounds, total-range}
 use Rattle.passage.specs.Overture.{HasLength}
 use Rattle.passage.proofs.Overture.{overture-length}
-use Rattle.plan.specs.declared.Refusal.{Refusal}
-use Rattle.plan.specs.declared.Refusal.TheVariants.{Accepted, Rate, Digits}
-use Rattle.plan.specs.Plan.{plan_refusal_number, cause_of_plan, plan_cause, digit_count, plan_by, plan_of, stage_samples, total_by, total_samples, BoundsOf}
+use Rattle.refusal.specs.declared.Refusal.{Refusal}
+use Rattle.plan.specs.Plan.{cause_of_plan, plan_cause, digit_count, plan_by, plan_of, counts_of, stage_samples, total_by, total_samples, BoundsOf}
 
 -- ---- the causes
 -- accepted is within the limits, and the other way round
@@ -26,35 +28,29 @@ pub record Limits (len r : ℕ) : Type 0 where
   pub fast : r ≤ 192000
   pub few : len ≤ 76
 
-pub accepted-limits : (len r : ℕ) → plan_refusal_number (plan_cause len r) ≡ 0 → Limits len r
+pub accepted-limits : (len r : ℕ) → plan_cause len r ≡ Ok tt → Limits len r
 unfolding plan_cause
 accepted-limits len r = go (leb min_rate r && leb r max_rate) (leb len max_digits) refl refl
   where
-    go : (a b : Bool) → leb min_rate r && leb r max_rate ≡ a → leb len max_digits ≡ b → plan_refusal_number (cause_of_plan a b) ≡ 0 → Limits len r
-    go false b e f h = absurd (omega (arith, h))
-    go true false e f h = absurd (omega (arith, h))
+    go : (a b : Bool) → leb min_rate r && leb r max_rate ≡ a → leb len max_digits ≡ b → cause_of_plan a b ≡ Ok tt → Limits len r
+    go false b e f h = cc
+    go true false e f h = cc
     go true true e f h = let (slow, fast) = (and-eq-true_iff (leb min_rate r) _).0 e in record { slow = leb-true _ _ slow; fast = leb-true _ _ fast; few = leb-true _ _ f }
 
-pub limits-accepted : (len r : ℕ) → 8000 ≤ r → r ≤ 192000 → len ≤ 76 → plan_cause len r ≡ Accepted
+pub limits-accepted : (len r : ℕ) → 8000 ≤ r → r ≤ 192000 → len ≤ 76 → plan_cause len r ≡ Ok tt
 unfolding plan_cause
 limits-accepted len r lo hi few = rw (le-leb min_rate r lo, le-leb r max_rate hi, le-leb len max_digits few)
 
-pub number-accepted : (k : Refusal) → plan_refusal_number k ≡ 0 → k ≡ Accepted
-number-accepted Accepted e = refl
-number-accepted Rate e = absurd (omega (arith, e))
-number-accepted Digits e = absurd (omega (arith, e))
+pub no_rate : (len r : ℕ) → is_rate r ≡ false → plan_cause len r ≡ Err Rate
+unfolding plan_cause
+no_rate len r e = rw e
 
--- a plan that was declined
-pub declined-plan : (k : Refusal) (r d : ℕ) → (plan_refusal_number k ≡ 0 → ⊥) → plan_by k r d ≡ record { refusal = k; samples = replicate 9 0 }
-declined-plan Accepted r d h = absurd (h refl)
-declined-plan Rate r d h = refl
-declined-plan Digits r d h = refl
+pub too_many : (len r : ℕ) → 8000 ≤ r → r ≤ 192000 → 76 < len → plan_cause len r ≡ Err Digits
+unfolding plan_cause
+too_many len r lo hi many = rw (le-leb min_rate r lo, le-leb r max_rate hi, lt-leb len max_digits many)
 
 pub digits-few : (bytes : List ℕ) → length bytes ≤ 76 → digit_count bytes ≤ 76
 digits-few bytes h = le_trans (digits-fewer bytes) h
-
-pub dialled-count : (bytes : List ℕ) → length bytes ≤ 76 → (dialled_of bytes).len ≡ digit_count bytes
-dialled-count bytes h = ap length (digits-whole bytes h)
 
 -- ---- the counts
 pub dialling-is : (r : ℕ) → 8000 ≤ r → r ≤ 192000 → (d : ℕ) → d ≤ 76 → dialling_samples r d ≡ dialling_length r d
@@ -62,49 +58,43 @@ unfolding dialling_samples
 dialling-is r lo hi d few = rw (le-leb min_rate r lo, le-leb r max_rate hi, le-leb d max_digits few)
 
 -- ---- a stage by its number, among nine
-nine : (k : Refusal) (r d : ℕ) → length (plan_by k r d).samples ≡ 9
-nine Accepted r d = refl
-nine Rate r d = refl
-nine Digits r d = refl
+nine : (k : Result (Unit {0}) Refusal) (r d : ℕ) → length (counts_of (plan_by k r d)) ≡ 9
+nine (Ok accepted) r d = refl
+nine (Err refusal) r d = refl
 
-pub stage-count : (bytes : List ℕ) (r stage : ℕ) → 1 ≤ stage → get_or (plan_of bytes r).samples (stage - 1) 0 ≡ stage_samples bytes r stage
+pub stage-count : (bytes : List ℕ) (r stage : ℕ) → 1 ≤ stage → get_or (counts_of (plan_of bytes r)) (stage - 1) 0 ≡ stage_samples bytes r stage
 unfolding stage_samples
 stage-count bytes r zero h = absurd (omega arith)
-stage-count bytes r (suc i) h = ap (λ (j : ℕ). get_or (plan_of bytes r).samples j 0) (omega arith)
+stage-count bytes r (suc i) h = ap (λ (j : ℕ). get_or (counts_of (plan_of bytes r)) j 0) (omega arith)
 
-pub stage-none : (bytes : List ℕ) (r stage : ℕ) → leb 1 stage && leb stage 9 ≡ false → stage_samples bytes r stage ≡ 0
+pub stage-none : (bytes : List ℕ) (r stage : ℕ) → (1 ≤ stage → stage ≤ 9 → ⊥) → stage_samples bytes r stage ≡ 0
 unfolding stage_samples plan_of
 stage-none bytes r zero e = refl
-stage-none bytes r (suc i) e = get_or-eq_default (plan_by (plan_cause (length bytes) r) r (digit_count bytes)).samples 0 (le_trans (le_of_eq (nine (plan_cause (length bytes) r) r (digit_count bytes))) (past i (leb-false (suc i) 9 (rw (le-leb 1 (suc i) (zero-lt-suc i)) at e))))
+stage-none bytes r (suc i) e = get_or-eq_default (counts_of (plan_by (plan_cause (length bytes) r) r (digit_count bytes))) 0 (le_trans (le_of_eq (nine (plan_cause (length bytes) r) r (digit_count bytes))) (past i (e (zero-lt-suc i))))
   where
-    past : (i : ℕ) → 9 < suc i → 9 ≤ i
+    past : (i : ℕ) → (suc i ≤ 9 → ⊥) → 9 ≤ i
     past i h = omega arith
 
 -- ---- T
--- the nine counts, added in their order
-abbrev pub added : List ℕ → ℕ
-added s = get_or s 0 0 + get_or s 1 0 + get_or s 2 0 + get_or s 3 0 + get_or s 4 0 + get_or s 5 0 + get_or s 6 0 + get_or s 7 0 + get_or s 8 0
-
-pub added_is : (bytes : List ℕ) (r : ℕ) → added (plan_of bytes r).samples ≡ total_samples bytes r
+-- the nine counts' sum
+pub sum-is : (bytes : List ℕ) (r : ℕ) → sum (counts_of (plan_of bytes r)) ≡ total_samples bytes r
 unfolding plan_of total_samples total
-added_is bytes r = go (plan_cause (length bytes) r)
+sum-is bytes r = go (plan_cause (length bytes) r)
   where
-    go : (k : Refusal) → added (plan_by k r (digit_count bytes)).samples ≡ total_by k r (digit_count bytes)
-    go Accepted = refl
-    go Rate = refl
-    go Digits = refl
+    go : (k : Result (Unit {0}) Refusal) → sum (counts_of (plan_by k r (digit_count bytes))) ≡ total_by k r (digit_count bytes)
+    go (Ok accepted) = omega arith
+    go (Err refusal) = refl
 
 -- so no sum of some of them is large
 pub total-small : (bytes : List ℕ) (r : ℕ) → total_samples bytes r ≤ 4798406
 unfolding total_samples
 total-small bytes r = go (plan_cause (length bytes) r) refl
   where
-    go : (k : Refusal) → plan_cause (length bytes) r ≡ k → total_by k r (digit_count bytes) ≤ 4798406
-    go Accepted e =
-        let l = accepted-limits (length bytes) r (ap plan_refusal_number e) in
+    go : (k : Result (Unit {0}) Refusal) → plan_cause (length bytes) r ≡ k → total_by k r (digit_count bytes) ≤ 4798406
+    go (Ok accepted) e =
+        let l = accepted-limits (length bytes) r e in
         (total-range r l.slow l.fast (digit_count bytes) (digits-few bytes l.few)).1
-    go Rate e = zero-le
-    go Digits e = zero-le
+    go (Err refusal) e = zero-le
 
 module _ (bytes : List ℕ) (r : ℕ) (lo : 8000 ≤ r) (hi : r ≤ 192000) (few : length bytes ≤ 76) where
   total-is : total_samples bytes r ≡ total r (digit_count bytes)

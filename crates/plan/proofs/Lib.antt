@@ -1,4 +1,5 @@
 pub mod Bits
+pub mod Dialled
 pub mod Counts
 pub mod Cases
 pub mod Reading

@@ -7,6 +7,7 @@ use std::fs::{OpenFile, OpenOptions};
 use std::io::{ErrorKind, Seek, SeekFrom};
 use std::rt::Files;
 use std::{fs, io};
+use text::Page;
 
 pub mod words;
 
@@ -156,18 +157,12 @@ fn missing<R: Files>(
     in_place(errors, program, path, Err(why))
 }
 
-// FILE.part, in the first bytes.
-#[derive(Clone, Copy)]
-struct Part {
-    name: [u8; 4104],
-    len: usize,
-}
-
-fn part_of(path: &[u8]) -> Part {
-    let mut name = [0u8; 4104];
-    let k = text::put(&mut name, 0, path);
-    let len = text::put(&mut name, k, b".part");
-    Part { name, len }
+// FILE.part.
+fn part_of(path: &[u8]) -> Page<4104> {
+    let mut name = Page::new();
+    name.put(path);
+    name.put(b".part");
+    name
 }
 
 fn beside<R: Files>(
@@ -176,18 +171,7 @@ fn beside<R: Files>(
     program: &[u8],
     path: &[u8],
 ) -> Recording<R::File> {
-    let part = part_of(path);
-    let name = part.name;
-    let len = part.len;
-    if len <= name.len() {
-        return create(rt, errors, program, &name[..len]);
-    }
-    in_place(errors, program, path, Err(too_long()))
-}
-
-// What the system says of such a path.
-fn too_long() -> io::Error {
-    io::Error::from(ErrorKind::InvalidFilename)
+    create(rt, errors, program, part_of(path).text())
 }
 
 fn create<R: Files>(
@@ -224,13 +208,7 @@ fn put_in_place(
     path: &[u8],
     whole: io::Result<()>,
 ) -> bool {
-    let part = part_of(path);
-    let name = part.name;
-    let len = part.len;
-    if len <= name.len() {
-        return rename(rt, errors, program, path, &name[..len], whole);
-    }
-    false
+    rename(rt, errors, program, path, part_of(path).text(), whole)
 }
 
 fn rename(

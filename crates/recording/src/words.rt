@@ -1,16 +1,16 @@
 // The programs' arguments, and what a program says where one is not accepted.
-use console::lines::Call;
 use std::env::Env;
 use std::io;
+use text::Page;
 
 // A line of a program's, behind its name.
 pub fn say(errors: &impl Print, program: &[u8], line: &[u8]) {
-    let mut whole = [0u8; 128];
-    let mut k = text::put(&mut whole, 0, program);
-    k = text::put(&mut whole, k, b": ");
-    k = text::put(&mut whole, k, line);
-    k = text::put_byte(&mut whole, k, b'\n');
-    let _ = console::stream::flush(errors, &whole, k);
+    let mut whole = Page::<128>::new();
+    whole.put(program);
+    whole.put(b": ");
+    whole.put(line);
+    whole.put_byte(b'\n');
+    let _ = errors.write_all(whole.text());
 }
 
 pub fn long_digits(errors: &impl Print, program: &[u8]) {
@@ -80,38 +80,26 @@ fn fail_of(
     after: &[u8],
     why: io::Error,
 ) {
-    let mut line = [0u8; 16640];
-    let mut k = text::put(&mut line, 0, program);
-    k = text::put(&mut line, k, before);
-    k = put_quoted(&mut line, k, path);
-    k = text::put(&mut line, k, after);
-    fail(errors, &line, k, why);
-}
-
-fn put_quoted(line: &mut [u8], at: usize, path: &[u8]) -> usize {
-    let mut k = text::put_byte(line, at, b'"');
-    let mut i: usize = 0;
-    while i < path.len() {
-        k = put_shown(line, k, path[i]);
-        i += 1;
-    }
-    text::put_byte(line, k, b'"')
+    let mut line = Page::<16640>::new();
+    line.put(program);
+    line.put(before);
+    put_quoted(&mut line, path);
+    line.put(after);
+    console::stream::fail(errors, line.text(), why);
 }
 
 // A byte that would end the quotes or the line is written as its number.
-fn put_shown(line: &mut [u8], at: usize, byte: u8) -> usize {
-    if (byte < b' ') | (byte == 127) | (byte == b'"') | (byte == b'\\') {
-        let k = text::put(line, at, b"\\x");
-        return text::put_hex(line, k, byte as u64, 2);
+fn put_quoted(line: &mut Page<16640>, path: &[u8]) {
+    line.put_byte(b'"');
+    for byte in path {
+        if byte.is_ascii_control() || matches!(*byte, b'"' | b'\\') {
+            line.put(b"\\x");
+            line.put_hex(*byte as u64, 2);
+        } else {
+            line.put_byte(*byte);
+        }
     }
-    text::put_byte(line, at, byte)
-}
-
-// The line's first `k` bytes, a colon and the system's word.
-fn fail(errors: &impl Print, line: &[u8], k: usize, why: io::Error) {
-    if k <= line.len() {
-        console::stream::fail(errors, &line[..k], why);
-    }
+    line.put_byte(b'"');
 }
 
 // Whether a dial line would drop none of the bytes.
@@ -125,29 +113,24 @@ pub fn rate(words: &impl Env) -> u32 {
     let mut word = [0u8; 64];
     match words.arg(2, &mut word) {
         Ok(count) => rate_of(&word[..count]),
-        Err(_) => rate_of(b""),
+        Err(_) => 0,
     }
 }
 
-// The rate of the line of `wall` that gives the word as its rate.
+// The number of a word of decimal digits, or as much as the type takes.
 fn rate_of(word: &[u8]) -> u32 {
-    let mut line = [0u8; 66];
-    let mut k = text::put(&mut line, 0, b"R,");
-    k = text::put(&mut line, k, word);
-    rate_in(call_of(&line, k))
-}
-
-// The call that a line's first `k` bytes are.
-fn call_of(line: &[u8], k: usize) -> Call {
-    if k <= line.len() {
-        return console::lines::call_of(false, &line[..k]);
+    if word.is_empty() {
+        return 0;
     }
-    Call::Other
-}
-
-fn rate_in(call: Call) -> u32 {
-    if let Call::Rate(rate) = call {
-        return rate;
+    let mut rate = 0u32;
+    for byte in word {
+        match *byte {
+            b'0'..=b'9' => {
+                let digit = u32::from(*byte - b'0');
+                rate = rate.saturating_mul(10).saturating_add(digit);
+            }
+            _ => return 0,
+        }
     }
-    0
+    rate
 }

@@ -6,8 +6,8 @@ use lib.Ieee.{Float, nan, inf, fin, binary32, to_bits, eq, ne, is_nan}
 use lib.Ieee.Compare.{differs_from_itself}
 use Rattle.samples.specs.Bytes.{low_first, bytes_of}
 use Rattle.samples.specs.Fnv.{prime, hashed_of, hash_of}
-use Rattle.text.specs.Text.{Page, page_of, add_of}
-use Rattle.text.proofs.Texts.{add_none, add_nothing, add-long, add-join}
+use Rattle.text.specs.Page.{Page, add_of}
+use Rattle.text.proofs.Pages.{add_none, add_nothing, add-join}
 
 -- ---- the bit pattern: `x == x` fails of a NaN alone
 pub not-nan : (x : Float) → eq x x ≡ true → T (not (is_nan x))
@@ -40,22 +40,18 @@ bytes_next (x ∷ xs) (suc i) d h = rw (bytes_next xs i d (omega arith)) (sym (a
 pub bytes-more : (xs : List Float) (i : ℕ) (d : Float) → i < length xs → bytes_of (take (i + 1) xs) ≡ bytes_of (take i xs) ++ low_first 4 (to_bits binary32 (get_or xs i d))
 bytes-more xs i d h = rw (add-one i) (bytes_next xs i d h)
 
--- ---- samples written at a place: after i of them, what stands there is their bytes
-pub record Written (was : List ℕ) (at : ℕ) (samples : List Float) (out : List ℕ) (place i : ℕ) : Type 0 where
-  pub room : at + length samples * 4 ≤ length was
+-- ---- samples on a page: after i of them, what stands there is their bytes
+pub record Written (was : Page) (samples : List Float) (page : Page) (i : ℕ) : Type 0 where
+  pub room : length was.text + length samples * 4 ≤ was.room
   pub within : i ≤ length samples
-  pub page : page_of out place ≡ add_of (page_of was at) (bytes_of (take i samples))
+  pub added : page ≡ add_of was (bytes_of (take i samples))
 
-pub written_none : {was : List ℕ} {at : ℕ} {samples : List Float} → at + length samples * 4 ≤ length was → Written was at samples was at 0
+pub written_none : {was : Page} {samples : List Float} → length was.text + length samples * 4 ≤ was.room → Written was samples was 0
 unfolding bytes_of
-written_none {was} {at} h = record { room = h; within = omega arith; page = sym (add_nothing was at) }
+written_none {was} h = record { room = h; within = omega arith; added = sym (add_nothing was) }
 
-pub written-long : {was : List ℕ} {at : ℕ} {samples : List Float} {out : List ℕ} {place i : ℕ} → Written was at samples out place i → length out ≡ length was
-written-long {was} {at} {samples} {out} {place} {i} k =
-    ap (λ (p : Page). length p.bytes) k.page ∙ add-long (page_of was at) (bytes_of (take i samples))
-
-pub written-more : {was : List ℕ} {at : ℕ} {samples : List Float} {out next : List ℕ} {place after i : ℕ} (d : Float) → i < length samples → Written was at samples out place i → page_of next after ≡ add_of (page_of out place) (low_first 4 (to_bits binary32 (get_or samples i d))) → Written was at samples next after (i + 1)
-written-more {was} {at} {samples} {out} {next} {place} {after} {i} d l k e =
+pub written-more : {was page next : Page} {samples : List Float} {i : ℕ} (d : Float) → i < length samples → Written was samples page i → next ≡ add_of page (low_first 4 (to_bits binary32 (get_or samples i d))) → Written was samples next (i + 1)
+written-more {was} {page} {next} {samples} {i} d l k e =
     let word : List ℕ = low_first 4 (to_bits binary32 (get_or samples i d)) in
     let h = k.room in
     let n : length (bytes_of (take i samples)) ≡ i * 4 = bytes-long (take i samples) ∙ ap (λ (j : ℕ). j * 4) (length-take-le i samples (omega arith)) in
@@ -63,14 +59,14 @@ written-more {was} {at} {samples} {out} {next} {place} {after} {i} d l k e =
     record {
       room = h;
       within = omega arith;
-      page = e ∙ (ap (λ (p : Page). add_of p word) k.page ∙ (add-join was at (bytes_of (take i samples)) word (omega arith) ∙ ap (add_of (page_of was at)) (sym (bytes-more samples i d l))));
+      added = e ∙ (ap (λ (p : Page). add_of p word) k.added ∙ (add-join was (bytes_of (take i samples)) word (omega arith) ∙ ap (add_of was) (sym (bytes-more samples i d l))));
     }
 
-pub written_all : {was : List ℕ} {at : ℕ} {samples : List Float} {out : List ℕ} {place i : ℕ} → length samples ≤ i → Written was at samples out place i → page_of out place ≡ add_of (page_of was at) (bytes_of samples)
-written_all {was} {at} {samples} {out} {place} {i} l k = k.page ∙ ap (λ (xs : List Float). add_of (page_of was at) (bytes_of xs)) (take_all i samples l)
+pub written_all : {was page : Page} {samples : List Float} {i : ℕ} → length samples ≤ i → Written was samples page i → page ≡ add_of was (bytes_of samples)
+written_all {was} {page} {samples} {i} l k = k.added ∙ ap (λ (xs : List Float). add_of was (bytes_of xs)) (take_all i samples l)
 
-pub written-nothing : (was : List ℕ) (at : ℕ) (samples : List Float) → length was < at + length samples * 4 → add_of (page_of was at) (bytes_of samples) ≡ page_of was at
-written-nothing was at samples h = let e = bytes-long samples in add_none was at (bytes_of samples) (omega arith)
+pub written-nothing : (was : Page) (samples : List Float) → was.room < length was.text + length samples * 4 → was ≡ add_of was (bytes_of samples)
+written-nothing was samples h = let e = bytes-long samples in sym (add_none was (bytes_of samples) (omega arith))
 
 -- ---- samples hashed: after i of them, the hash is that of their bytes
 pub record Hashed (hash : ℕ) (samples : List Float) (h i : ℕ) : Type 0 where

@@ -17,10 +17,8 @@ pub fn hash_samples(hash: u64, samples: &[f32]) -> u64
     ensures { result ≡ hash_of hash (bytes_of samples.now) }
 {
     let mut h = hash;
-    let mut i = 0;
-    while i < samples.len() {
-        h = hash_sample(h, samples[i]);
-        i += 1;
+    for sample in samples {
+        h = hash_sample(h, *sample);
     }
     h
 }

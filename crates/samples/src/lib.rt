@@ -7,7 +7,9 @@ pub mod wav;
 ghost use Rattle.std.specs.Prelude.{◌≡◌, to_bits};
 ghost use Rattle.std.specs.Float.{binary32};
 ghost use Rattle.samples.specs.Bytes.{low_first, bytes_of};
-ghost use Rattle.text.specs.Text.{page_of, add_of};
+ghost use Rattle.text.specs.Page.{add_of};
+
+use text::Page;
 
 // The bit pattern of a sample. A NaN, which no sample is, has one pattern here.
 pub fn bits(sample: f32) -> u32
@@ -34,26 +36,19 @@ pub fn low_first(number: u64) -> [u8; 4]
     ]
 }
 
-// Writes the samples' bytes at a place and answers the place after them. Where the whole does not
-// fit, nothing is written and the place stays.
-pub fn put_samples(out: &mut [u8], at: usize, samples: &[f32]) -> usize
-    ensures { page_of out.new result ≡ add_of (page_of out.old at) (bytes_of samples.now) }
+// Puts the samples' bytes on a page. Where the whole does not fit, nothing is put.
+pub fn put_samples<const N: usize>(page: &mut Page<N>, samples: &[f32])
+    ensures { page.new ≡ add_of page.old (bytes_of samples.now) }
 {
-    if text::has_room(out.len(), at, samples.len() * 4) {
-        let mut place = at;
-        let mut i = 0;
-        while i < samples.len() {
-            place = put_sample(out, place, samples[i]);
-            i += 1;
+    if page.has_room(samples.len() * 4) {
+        for sample in samples {
+            put_sample(page, *sample);
         }
-        return place;
     }
-    at
 }
 
-fn put_sample(out: &mut [u8], at: usize, sample: f32) -> usize
-    ensures { page_of out.new result ≡ add_of (page_of out.old at) (low_first 4 (to_bits binary32 sample)) }
+fn put_sample<const N: usize>(page: &mut Page<N>, sample: f32)
+    ensures { page.new ≡ add_of page.old (low_first 4 (to_bits binary32 sample)) }
 {
-    let bytes = low_first(bits(sample) as u64);
-    text::put(out, at, &bytes)
+    page.put(&low_first(bits(sample) as u64));
 }

@@ -1,5 +1,6 @@
 -- `play` meets its contract: the part written is the definition's samples; a run's part comes back with the run. Assumes nothing.
 use Rattle.std.proofs.Common.{ℕ, ◌-◌, ◌<◌, ◌≤◌, length, refl, le_trans, le_of_eq, arith}
+use Rattle.plan.specs.Call.{call_digits}
 use Rattle.handset.specs.Runs.{Placed}
 use Rattle.handset.proofs.Joined.{Filled, start, again, full}
 use Rattle.handset.proofs.Joined as joined
@@ -8,11 +9,11 @@ use Rattle.handset.proofs.play.Goals.{In-loop-at}
 
 -- what `place::at` asks, and that the buffer is as long as it was
 within : (c : In-loop-at) → length c.loop-at.out ≤ 65536
-within c = le_trans (le_of_eq (joined.same_length _ _ _ _ _ _ c.loop-at.invariant.0)) c.requires.4
+within c = le_trans (le_of_eq (joined.same_length _ _ _ _ _ _ c.loop-at.invariant.0)) c.requires.1
 
-placed : (c : In-loop-at) → Placed c.args.digits.now c.args.rate c.edges-edges.result (length c.loop-at.out - c.loop-at.at)
+placed : (c : In-loop-at) → Placed (call_digits c.args.call.now) c.args.call.now.rate.hertz c.edges-edges.result (length c.loop-at.out - c.loop-at.at)
 placed c =
-    record { slow = c.requires.0; fast = c.requires.1; few = c.requires.2; placed = c.loop-at.invariant.1; some = omega (arith, c.loop-at-test.true); short = le_trans (less _ _) (within c) }
+    record { placed = c.loop-at.invariant.1; some = omega (arith, c.loop-at-test.true); short = le_trans (less _ _) (within c) }
   where
     less : (a b : ℕ) → a - b ≤ a
     less a b = omega arith
@@ -27,7 +28,7 @@ pub overflow_add-end : goal.overflow_add-end
 overflow_add-end c = let P = placed (goal.at.overflow_add-end c).In-loop-at in omega (arith, c.at-next.ensures.room.fits, P.short, c.loop-at-test.true, within (goal.at.overflow_add-end c).In-loop-at)
 
 pub write_run-requires : goal.write_run-requires
-write_run-requires c = (c.requires.0, c.at-next.ensures.audible)
+write_run-requires c = c.at-next.ensures.audible
 
 pub loop-at-smaller : goal.loop-at-smaller
 loop-at-smaller c = let R = c.at-next.ensures.room in

@@ -1,20 +1,16 @@
 -- `write_run` meets its contract, by what sounds. Assumes nothing.
-use Rattle.std.proofs.Common.{◌≡◌, ℕ, ◌<◌, sym, ◌∙◌, subst}
-use Rattle.handset.specs.declared.Sound.{Sound}
-use Rattle.handset.specs.declared.Sound.TheVariants.{Tones}
+use Rattle.std.proofs.Common.{◌≡◌, length, pos, replicate, sym, ◌∙◌, subst, rules}
 use Rattle.handset.specs.Runs.{Audible}
-use Rattle.handset.proofs.Heard.{silence}
+use Rattle.handset.proofs.Heard.{silence, zeros}
 use Rattle.handset.proofs.write_run.Goals as goal
 
-audible : (sound : Sound) (low high : ℕ) → sound ≡ Tones low high → Audible sound → (low < 8000) × (high < 8000)
-audible sound low high e a = subst Audible e a
-
 pub play-requires : goal.play-requires
-play-requires c = let low = audible _ _ _ c.in-Tones.is c.requires.1 in
-    (low.0, low.1, c.requires.0)
+play-requires c = subst Audible c.in-Some.is c.requires
 
-pub returns-in-Silent : goal.returns-in-Silent
-returns-in-Silent c = c.write_zeros.ensures ∙ sym (rw c.in-Silent.is (silence _ _ _))
+pub returns-in-Some : goal.returns-in-Some
+returns-in-Some c = rw c.in-Some.is c.play.ensures
 
-pub returns-in-Tones : goal.returns-in-Tones
-returns-in-Tones c = rw c.in-Tones.is c.play.ensures
+pub returns-in-None : goal.returns-in-None
+returns-in-None c =
+    let e : c.fill.new.self ≡ replicate (length c.args.out.now) (pos 0) = search rules in
+    e ∙ sym (rw c.in-None.is (silence _ _ _ ∙ zeros _))

@@ -6,59 +6,57 @@ use Rattle.schedule.specs.Symbols.{phase_after, done_after}
 use Rattle.schedule.proofs.Constants.{three, four}
 use Rattle.schedule.proofs.Lengths.{click-range, dial-tone-range, dialling-range, ringback-range, bits_range, ansam-range, silence-range}
 use Rattle.plan.proofs.Bits.{Fewer, fewer-before, clock-number, clock-whole}
+use Rattle.plan.proofs.Dialled.{call-few}
 use Rattle.plan.proofs.Counts.{dialling-is}
 use Rattle.plan.proofs.lengths.Goals as goal
 
 pub overflow_cast-click : goal.overflow_cast-click
-overflow_cast-click c = omega (arith, c.stage_samples_for-click.ensures, (click-range _ c.requires.0 c.requires.1).1)
+overflow_cast-click c = omega (arith, c.stage_samples_for-click.ensures, (click-range _ c.args.call.now.rate.slow c.args.call.now.rate.fast).1)
 
 pub overflow_cast-tone : goal.overflow_cast-tone
-overflow_cast-tone c = omega (arith, c.stage_samples_for-tone.ensures, (dial-tone-range _ c.requires.0 c.requires.1).1)
+overflow_cast-tone c = omega (arith, c.stage_samples_for-tone.ensures, (dial-tone-range _ c.args.call.now.rate.slow c.args.call.now.rate.fast).1)
 
 pub overflow_cast-dialling : goal.overflow_cast-dialling
-overflow_cast-dialling c = omega (arith, c.dialling_samples-dialling.ensures, dialling-is _ c.requires.0 c.requires.1 _ c.requires.2, (dialling-range _ c.requires.0 c.requires.1 _ c.requires.2).1)
+overflow_cast-dialling c = omega (arith, c.dialling_samples-dialling.ensures, dialling-is _ c.args.call.now.rate.slow c.args.call.now.rate.fast _ (call-few c.args.call.now _ c.digits.ensures), (dialling-range _ c.args.call.now.rate.slow c.args.call.now.rate.fast _ (call-few c.args.call.now _ c.digits.ensures)).1)
 
 pub overflow_cast-ringback : goal.overflow_cast-ringback
-overflow_cast-ringback c = omega (arith, rw four at c.stage_samples_for-ringback.ensures, (ringback-range _ c.requires.0 c.requires.1).1)
+overflow_cast-ringback c = omega (arith, rw four at c.stage_samples_for-ringback.ensures, (ringback-range _ c.args.call.now.rate.slow c.args.call.now.rate.fast).1)
 
 pub overflow_cast-ansam : goal.overflow_cast-ansam
-overflow_cast-ansam c = omega (arith, rw three at c.stage_samples_for-ansam.ensures, (ansam-range _ c.requires.0 c.requires.1).1)
+overflow_cast-ansam c = omega (arith, rw three at c.stage_samples_for-ansam.ensures, (ansam-range _ c.args.call.now.rate.slow c.args.call.now.rate.fast).1)
 
 pub overflow_cast-silence : goal.overflow_cast-silence
-overflow_cast-silence c = omega (arith, c.stage_samples_for-silence.ensures, (silence-range _ c.requires.0 c.requires.1).1)
+overflow_cast-silence c = omega (arith, c.stage_samples_for-silence.ensures, (silence-range _ c.args.call.now.rate.slow c.args.call.now.rate.fast).1)
 
 pub run_to-ci-requires : goal.run_to-ci-requires
 unfolding phase_after done_after
-run_to-ci-requires c = (c.requires.0, c.requires.1, lit≤ tt, refl, lit< tt, λ j h. absurd (omega arith))
+run_to-ci-requires c = (lit≤ tt, refl, lit< tt, λ j h. absurd (omega arith))
 
 pub run_to-cm_jm-requires : goal.run_to-cm_jm-requires
-run_to-cm_jm-requires c = (
-  c.requires.0,
-  c.requires.1,
+run_to-cm_jm-requires c = let call = c.args.call.now in (
   lit≤ tt,
   clock-whole _ 60 _ c.run_to-ci.ensures.0,
   omega (arith, c.run_to-ci.ensures.1),
-  subst (Fewer c.args.rate 80) (sym (clock-number _ 60 _ c.run_to-ci.ensures.0)) (fewer-before _ c.requires.0 c.requires.1 80 (lit< tt) (lit≤ tt) 60 (lit< tt) (lit≤ tt)),
+  subst (Fewer call.rate.hertz 80) (sym (clock-number _ 60 _ c.run_to-ci.ensures.0)) (fewer-before _ call.rate.slow call.rate.fast 80 (lit< tt) (lit≤ tt) 60 (lit< tt) (lit≤ tt)),
 )
 
 pub run_to-training-requires : goal.run_to-training-requires
-run_to-training-requires c = (
-  c.requires.0,
-  c.requires.1,
+run_to-training-requires c = let call = c.args.call.now in (
   lit≤ tt,
   clock-whole _ 80 _ c.run_to-cm_jm.ensures.0,
   omega (arith, c.run_to-cm_jm.ensures.1),
-  subst (Fewer c.args.rate 300) (sym (clock-number _ 80 _ c.run_to-cm_jm.ensures.0)) (fewer-before _ c.requires.0 c.requires.1 300 (lit< tt) (lit≤ tt) 80 (lit< tt) (lit≤ tt)),
+  subst (Fewer call.rate.hertz 300) (sym (clock-number _ 80 _ c.run_to-cm_jm.ensures.0)) (fewer-before _ call.rate.slow call.rate.fast 300 (lit< tt) (lit≤ tt) 80 (lit< tt) (lit≤ tt)),
 )
 
 pub overflow_add-cj : goal.overflow_add-cj
-overflow_add-cj c = omega (arith, clock-number _ 60 _ c.run_to-ci.ensures.0, (bits_range _ c.requires.0 c.requires.1 60 (lit≤ tt)).1, c.stage_samples_for-silence.ensures, (silence-range _ c.requires.0 c.requires.1).1)
+overflow_add-cj c = omega (arith, clock-number _ 60 _ c.run_to-ci.ensures.0, (bits_range _ c.args.call.now.rate.slow c.args.call.now.rate.fast 60 (lit≤ tt)).1, c.stage_samples_for-silence.ensures, (silence-range _ c.args.call.now.rate.slow c.args.call.now.rate.fast).1)
 
 pub returns : goal.returns
 returns c = rw (
   c.stage_samples_for-click.ensures,
   c.stage_samples_for-tone.ensures,
-  c.dialling_samples-dialling.ensures ∙ dialling-is _ c.requires.0 c.requires.1 _ c.requires.2,
+  c.dialling_samples-dialling.ensures ∙ dialling-is _ c.args.call.now.rate.slow c.args.call.now.rate.fast _ (call-few c.args.call.now _ c.digits.ensures),
+  c.digits.ensures,
   rw four at c.stage_samples_for-ringback.ensures,
   rw three at c.stage_samples_for-ansam.ensures,
   c.stage_samples_for-silence.ensures,

@@ -1,29 +1,16 @@
--- `samples::put_samples` meets its contract: after i turns the bytes of the first i samples stand at their place (`Written`).
--- The measure is what is left of the samples. Assumes nothing.
-use Rattle.std.proofs.Common.{sym, ◌∙◌, arith, leb-false, leb-true}
-use Rattle.samples.proofs.Samples.{written_none, written-long, written-more, written_all, written-nothing}
+-- `samples::put_samples` meets its contract: after i turns the bytes of the first i samples are put (`Written`). Assumes nothing.
+use Rattle.std.proofs.Common.{sym, ◌∙◌, leb-false, leb-true}
+use Rattle.samples.proofs.Samples.{written_none, written-more, written_all, written-nothing}
 use Rattle.samples.proofs.put_samples.Goals as goal
 
-pub loop-i-init : goal.loop-i-init
-loop-i-init c = written_none (leb-true _ _ (sym c.has_room.ensures ∙ c.if-has_room.true))
+pub loop-sample-init : goal.loop-sample-init
+loop-sample-init g c = written_none (leb-true _ _ (sym c.has_room.ensures ∙ c.if-has_room.true))
 
-pub bounds-samples-i : goal.bounds-samples-i
-bounds-samples-i c = omega arith
+pub loop-sample-preserved : goal.loop-sample-preserved
+loop-sample-preserved g c = written-more _ c.loop-sample-test.true c.loop-sample.invariant c.put_sample.ensures
 
-pub overflow_add-i : goal.overflow_add-i
-overflow_add-i c = omega arith
+pub returns-after-loop-sample : goal.returns-after-loop-sample
+returns-after-loop-sample g c = written_all c.loop-sample-test.false c.loop-sample.invariant
 
-pub loop-i-smaller : goal.loop-i-smaller
-loop-i-smaller c = omega arith
-
-pub loop-i-preserved : goal.loop-i-preserved
-loop-i-preserved c = written-more _ c.loop-i-test.true c.loop-i.invariant c.put_sample-place.ensures
-
-pub shape_of-out-then-has_room : goal.shape_of-out-then-has_room
-shape_of-out-then-has_room c = written-long c.loop-i.invariant
-
-pub returns-then-has_room : goal.returns-then-has_room
-returns-then-has_room c = written_all c.loop-i-test.false c.loop-i.invariant
-
-pub returns : goal.returns
-returns c = sym (written-nothing _ _ _ (leb-false _ _ (sym c.has_room.ensures ∙ c.if-has_room.false)))
+pub returns-else-has_room : goal.returns-else-has_room
+returns-else-has_room g c = written-nothing _ _ (leb-false _ _ (sym c.has_room.ensures ∙ c.if-has_room.false))

@@ -1,11 +1,6 @@
--- `samples::put_samples` meets its contract: after i turns the bytes of the first i samples stand at their place (`Written`).
--- The measure is what is left of the samples. Assumes nothing.
-use Rattle.std.proofs.Common.{◌-◌, length}
+-- `samples::put_samples` meets its contract: after i turns the bytes of the first i samples are put (`Written`). Assumes nothing.
 use Rattle.samples.proofs.Samples.{Written}
 use Rattle.samples.proofs.put_samples.Given as goal
 
-abbrev pub invariant-loop-i : goal.invariant-loop-i
-invariant-loop-i l = Written l.initial.out l.at l.samples l.out l.place l.i
-
-abbrev pub decreases-loop-i : goal.decreases-loop-i
-decreases-loop-i l = length l.samples - l.i
+abbrev pub invariant-loop-sample : goal.invariant-loop-sample
+invariant-loop-sample g l = Written l.initial.page l.samples l.page l.sample-index

@@ -6,7 +6,7 @@ use Rattle.gibbonplate.proofs.memory.load.Goals as goal
 
 pub returns-then-holds_set : goal.returns-then-holds_set
 unfolding loaded
-returns-then-holds_set c = let t = c.if-holds_set.true in record { value = rw (← c.holds_set.ensures, t) c.set_in.ensures; result_value = λ h. cc; result_value_2 = λ h. rw c.set_in.ensures (too_many _ h) }
+returns-then-holds_set c = let t = c.if-holds_set.true in record { value = rw (← c.holds_set.ensures, t) c.set.ensures; result_value = λ h. cc; result_value_2 = λ h. rw c.set.ensures (too_many _ h) }
 
 pub returns : goal.returns
 unfolding loaded

@@ -11,7 +11,7 @@ some-digits r zero h = absurd (h refl)
 some-digits r (suc d) h = refl
 
 pub overflow_cast-result : goal.overflow_cast-result
-overflow_cast-result c = omega (arith, c.dialling_samples.ensures, dialling-is _ c.requires.0 c.requires.1 _ c.requires.2, (dialling-range _ c.requires.0 c.requires.1 _ c.requires.2).1)
+overflow_cast-result c = omega (arith, c.dialling_samples.ensures, dialling-is _ c.args.rate.slow c.args.rate.fast _ c.requires, (dialling-range _ c.args.rate.slow c.args.rate.fast _ c.requires).1)
 
 pub returns : goal.returns
-returns c = c.dialling_samples.ensures ∙ dialling-is _ c.requires.0 c.requires.1 _ c.requires.2 ∙ some-digits _ _ c.if-digit-eq0.false
+returns c = c.dialling_samples.ensures ∙ dialling-is _ c.args.rate.slow c.args.rate.fast _ c.requires ∙ some-digits _ _ c.if-digit-eq0.false

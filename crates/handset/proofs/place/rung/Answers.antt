@@ -1,9 +1,10 @@
 -- `place::rung` meets its contract: what was counted up to a burst's or a gap's end is what the definition counts. Assumes nothing.
-use Rattle.std.proofs.Common.{◌≡◌, ℕ, ◌+◌, ◌-◌, ◌<◌, ◌≤◌, Bool, sym, refl, ap, ◌∙◌, le_trans, le_of_eq, le_antisymm, arith, lit≤}
+use Rattle.std.proofs.Common.{◌≡◌, ℕ, ◌+◌, ◌-◌, ◌<◌, ◌≤◌, Bool, true, false, sym, refl, ap, ◌∙◌, le_trans, le_of_eq, le_antisymm, arith, lit≤}
 use Rattle.schedule.specs.Ringback.{ring_time, ring_tone}
 use Rattle.handset.specs.Runs.{rung_before, rung_with}
 use Rattle.handset.proofs.Lifted.{rung-few, rung-more, gate-stays}
 use Rattle.handset.proofs.place.rung.Goals as goal
+use Rattle.handset.proofs.place.rung.Goals.{then-on, else-on}
 
 positive : (at n : ℕ) → at < n → 0 < n - at
 positive at n h = omega arith
@@ -20,21 +21,21 @@ less n at = omega arith
 counted : (on gate : Bool) (k m c : ℕ) → on ≡ gate → k ≡ m → rung_with on k c ≡ rung_with gate m c
 counted on gate k m c e f = rw (e, f)
 
+grown : (on : Bool) (k c m : ℕ) (b : Bool) → on ≡ b → m ≡ rung_with b k c → m ≡ rung_with on k c
+grown on k c m b e f = rw e f
+
 pub loop-at-init : goal.loop-at-init
 unfolding rung_before
 loop-at-init c = (omega arith, refl)
 
 pub overflow_cast-count : goal.overflow_cast-count
-overflow_cast-count c = omega (arith, c.ring_run-count.ensures.fits, c.requires.2)
+overflow_cast-count c = omega (arith, c.ring_run-count.ensures.fits, c.requires)
 
-pub with_run-k-requires : goal.with_run-k-requires
-with_run-k-requires c = (le_trans (le_of_eq c.loop-at.invariant.1) (le_trans (rung-few _ _) (le_trans c.loop-at.invariant.0 c.requires.2)), omega (arith, c.ring_run-count.ensures.fits, c.requires.2))
-
-pub overflow_cast-at : goal.overflow_cast-at
-overflow_cast-at c = omega (arith, c.ring_run-count.ensures.fits, c.requires.2)
+pub overflow_add-k : goal.overflow_add-k
+overflow_add-k c = let few = le_trans (le_of_eq c.loop-at.invariant.1) (le_trans (rung-few _ _) (le_trans c.loop-at.invariant.0 c.requires)) in omega (arith, c.ring_run-count.ensures.fits, c.requires)
 
 pub overflow_add-at : goal.overflow_add-at
-overflow_add-at c = omega (arith, c.ring_run-count.ensures.fits, c.loop-at.invariant.0, c.requires.2)
+overflow_add-at c = omega (arith, c.ring_run-count.ensures.fits, c.loop-at.invariant.0, c.requires)
 
 pub loop-at-smaller : goal.loop-at-smaller
 loop-at-smaller c = let test = c.loop-at-test.true in
@@ -42,11 +43,13 @@ loop-at-smaller c = let test = c.loop-at-test.true in
 
 pub loop-at-preserved : goal.loop-at-preserved
 loop-at-preserved c = let gate = c.ringback_gate-on.ensures ∙ ap ring_tone (c.ring_progress-progress.ensures.1 ∙ ap ring_time c.seconds.ensures) in
-    let fits = c.ring_run-count.ensures.fits in (
+    let fits = c.ring_run-count.ensures.fits in
+    let sum : c.if-on.k ≡ rung_with c.ringback_gate-on.result c.loop-at.k c.ring_run-count.result =
+    elim c.if-on.branch [ then-on w ↦ grown _ _ _ _ true w.if-on.true w.k-is | else-on w ↦ grown _ _ _ _ false w.if-on.false w.k-is ] in (
       within _ _ _ c.loop-at.invariant.0 fits,
-      c.with_run-k.ensures
+      sum
           ∙ counted _ _ _ _ _ gate c.loop-at.invariant.1
-          ∙ sym (rung-more _ _ _ _ (gate-stays _ _ _ _ c.ring_run-count.ensures (le_trans c.loop-at.invariant.0 (le_trans c.requires.2 (lit≤ tt))) (le_trans (less _ _) (le_trans c.requires.2 (lit≤ tt))))),
+          ∙ sym (rung-more _ _ _ _ (gate-stays _ _ _ _ c.ring_run-count.ensures (le_trans c.loop-at.invariant.0 (le_trans c.requires (lit≤ tt))) (le_trans (less _ _) (le_trans c.requires (lit≤ tt))))),
     )
 
 pub returns : goal.returns

@@ -11,5 +11,5 @@ returns c = let gate = c.ringback_gate.ensures ∙ ap ring_tone (c.ring_progress
       room = record { some = c.ring_run-count.ensures.some; fits = c.ring_run-count.ensures.fits };
       sound = c.ring_sound-sound.ensures ∙ ap ring_sound gate;
       steps = c.rung-steps.ensures;
-      stays = gate-stays _ _ _ _ c.ring_run-count.ensures (le_trans c.requires.2 (lit≤ tt)) (le_trans c.requires.4 (lit≤ tt));
+      stays = gate-stays _ _ _ _ c.ring_run-count.ensures (le_trans c.requires.0 (lit≤ tt)) (le_trans c.requires.2 (lit≤ tt));
     }

@@ -10,7 +10,7 @@ small f r h k =
     (div-lt_iff_lt-mul some).1 most
 
 pub overflow_cast-result-3 : goal.overflow_cast-result-3
-overflow_cast-result-3 c = record { fits = small c.args.hertz c.args.rate c.requires.0 c.requires.1 }
+overflow_cast-result-3 c = record { fits = small c.args.hertz c.args.rate.hertz c.requires c.args.rate.slow }
 
 pub returns : goal.returns
 unfolding step_of

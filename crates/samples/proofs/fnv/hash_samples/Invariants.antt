@@ -1,11 +1,6 @@
--- `samples::fnv::hash_samples` meets its contract: after i turns the hash is that of the first i samples' bytes.
--- The measure is what is left of the samples. Assumes nothing.
-use Rattle.std.proofs.Common.{◌-◌, length}
+-- `samples::fnv::hash_samples` meets its contract: after i turns the hash is that of the first i samples' bytes. Assumes nothing.
 use Rattle.samples.proofs.Samples.{Hashed}
 use Rattle.samples.proofs.fnv.hash_samples.Given as goal
 
-abbrev pub invariant-loop-i : goal.invariant-loop-i
-invariant-loop-i l = Hashed l.hash l.samples l.h l.i
-
-abbrev pub decreases-loop-i : goal.decreases-loop-i
-decreases-loop-i l = length l.samples - l.i
+abbrev pub invariant-loop-sample : goal.invariant-loop-sample
+invariant-loop-sample l = Hashed l.hash l.samples l.h l.sample-index

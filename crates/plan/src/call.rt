@@ -1,0 +1,37 @@
+// A call before it is made: its digits, and its rate.
+ghost use Rattle.std.specs.Prelude.{◌≡◌, ◌≤◌, length, Ok, Err, MatchResult};
+ghost use Rattle.schedule.specs.Length.{max_digits};
+
+use keys::Digits;
+use refusal::Refusal;
+use schedule::Rate;
+
+#[derive(Clone, Copy)]
+pub struct Call {
+    pub digits: Digits,
+    pub rate: Rate,
+    pub ghost few: { digits.len ≤ max_digits },
+}
+
+impl Call {
+    ghost use Rattle.plan.specs.Plan.{plan_cause};
+    ghost use Rattle.plan.specs.Call.{call_digits, IsCallOf};
+
+    // The call of the digits that a dial line would have of the bytes. Declined are a bad rate, and more bytes than a line has, keys or not.
+    pub fn new(bytes: &[u8], rate: u32) -> Result<Call, Refusal>
+        ensures { MatchResult result (λ call. IsCallOf call bytes.now rate) (λ refusal. plan_cause (length bytes.now) rate ≡ Err refusal) }
+    {
+        let rate = Rate::new(rate).ok_or(Refusal::Rate)?;
+        if bytes.len() as u64 > schedule::MAX_DIGITS {
+            return Err(Refusal::Digits);
+        }
+        let digits = keys::dialled(bytes);
+        Ok(Call { digits, rate })
+    }
+
+    pub fn digits(&self) -> &[u8]
+        ensures { result.now ≡ call_digits self.now }
+    {
+        &self.digits.keys[..self.digits.len]
+    }
+}
