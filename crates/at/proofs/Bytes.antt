@@ -6,11 +6,11 @@ use mathlib.Core.List.{List, []}
 use mathlib.Core.Bool.{Bool, true, false}
 use lib.Dec.{ltb, eqb}
 use borrow.Author.Tests.{ltb-true, ltb-false}
-use Rattle.reply.specs.declared.Reply.TheVariants.{None}
+use Rattle.std.specs.Prelude.{None}
+use Rattle.reply.specs.declared.Reply.TheVariants as reply
 use Rattle.command.specs.Line.{empty_line, pushed, uppercased}
 use Rattle.command.specs.Command.{command_of}
 use Rattle.at.specs.declared.AtProcessor.{AtProcessor}
-use Rattle.at.specs.declared.Control.TheVariants.{Nothing}
 use Rattle.at.specs.declared.Fed.{Fed}
 use Rattle.at.specs.Processor.{command_mode, line_of, pluses, with_line, with_escape}
 use Rattle.at.specs.Answer.{quiet, answered}
@@ -30,7 +30,7 @@ module _ (p : AtProcessor) (byte : ℕ) (carrier : Bool) (room : ℕ) where
     -- a plus that is withheld
     waits : withheld p byte ≡ true → Typed (quiet (with_escape (pluses p + 1) 0 p)) []
     -- any other byte in data mode, and one that finds no room
-    sends : pluses p < room → Typed (record { processor = with_escape 0 0 p; reply = None; control = Nothing; sent = pluses p + 1; line = empty_line }) (pluses_then (pluses p) byte)
+    sends : pluses p < room → Typed (record { processor = with_escape 0 0 p; reply = reply.None; control = None; sent = pluses p + 1; line = empty_line }) (pluses_then (pluses p) byte)
     declined : room ≤ pluses p → Typed (quiet p) (pluses_then (pluses p) byte)
 
   ending : (empty : Bool) → Typed (ended_if empty p carrier) []

@@ -15,6 +15,7 @@ use Rattle.command.specs.Line.{empty_line, sound_line, pushed, uppercased}
 use Rattle.command.proofs.Cases.{ones, marked}
 use Rattle.command.specs.Command.{begins, is, all_digits, value_from, is_setting, setting_of, command_of}
 use Rattle.at.specs.declared.AtProcessor.{AtProcessor}
+use Rattle.std.specs.Prelude.{Some}
 use Rattle.at.specs.declared.Control.TheVariants.{Dial}
 use Rattle.at.specs.declared.Fed.{Fed}
 use Rattle.at.specs.Processor.{fresh, command_mode, line_of, pluses, sound, online, with_line, with_escape, with_carrier, with_s12, added}
@@ -35,12 +36,12 @@ unfolding typing typed_byte command_byte ended pushed upper uppercased begins is
 answer_to line = typed_byte (typing (ascii line) fresh) (code "\r") false 4
 
 -- ATDT12
-pub atdt12 : ((answer_to "ATDT12").control ≡ Dial) × (after_atdt (answer_to "ATDT12") ≡ ascii "12")
+pub atdt12 : ((answer_to "ATDT12").control ≡ Some Dial) × (after_atdt (answer_to "ATDT12") ≡ ascii "12")
 unfolding answer_to
 atdt12 = (refl, refl)
 
 -- atdtabcdef: after ATDT stands ABCDEF, of which ABCD are keys
-pub atdtabcdef : ((answer_to "atdtabcdef").control ≡ Dial) × (after_atdt (answer_to "atdtabcdef") ≡ ascii "ABCDEF")
+pub atdtabcdef : ((answer_to "atdtabcdef").control ≡ Some Dial) × (after_atdt (answer_to "atdtabcdef") ≡ ascii "ABCDEF")
 unfolding answer_to
 atdtabcdef = (refl, refl)
 
@@ -55,7 +56,7 @@ unfolding answer_to
 at-dt1 = refl
 
 -- 02, E1: ATDT and 76 digits are dialled, and with one more CR gives ERROR and empties the line
-pub atdt-76 : ((answer_to "ATDT1111111111111111111111111111111111111111111111111111111111111111111111111111").control ≡ Dial)
+pub atdt-76 : ((answer_to "ATDT1111111111111111111111111111111111111111111111111111111111111111111111111111").control ≡ Some Dial)
 unfolding answer_to
 atdt-76 = refl
 

@@ -15,7 +15,7 @@ use Rattle.command.specs.Line.{empty_line, typed, ran_over, sound_line, pushed, 
 use Rattle.command.proofs.Pushed as line
 use Rattle.command.proofs.Overlong.{no-command}
 use Rattle.at.specs.declared.AtProcessor.{AtProcessor}
-use Rattle.at.specs.declared.Control.TheVariants.{Nothing}
+use Rattle.std.specs.Prelude.{None}
 use Rattle.at.specs.declared.Fed.{Fed}
 use Rattle.at.specs.Processor.{command_mode, line_of, pluses, seen, down_time, hold_time, sound, with_line, with_escape, added}
 use Rattle.at.specs.Answer.{outcome, answered}
@@ -51,7 +51,7 @@ module _ (p : AtProcessor) (mode : command_mode p ≡ true) (carrier : Bool) (ro
 
   -- CR on a line that ran over gives ERROR and leaves an empty line with no mark
   pub error-on-return : sound p ≡ true → ran_over (line_of p) ≡ true
-      → typed_byte p (code "\r") carrier room ≡ answered (uppercased (line_of p)) (outcome (with_line empty_line p) (One Error) Nothing)
+      → typed_byte p (code "\r") carrier room ≡ answered (uppercased (line_of p)) (outcome (with_line empty_line p) (One Error) None)
   unfolding typed_byte command_byte ended uppercased executed
   error-on-return e over = rw (mode, ne_eqb _ 0 (line.marked-some (line_of p) (parts p e).line over), no-command (uppercased (line_of p)) over)
 

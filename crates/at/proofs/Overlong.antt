@@ -14,7 +14,7 @@ use Rattle.reply.specs.declared.Code.TheVariants.{Error}
 use Rattle.command.specs.Line.{empty_line, typed, ran_over, pushed}
 use Rattle.command.proofs.Overlong.{pushes, overlong}
 use Rattle.at.specs.declared.AtProcessor.{AtProcessor}
-use Rattle.at.specs.declared.Control.TheVariants.{Nothing}
+use Rattle.std.specs.Prelude.{None}
 use Rattle.at.specs.declared.Fed.{Fed}
 use Rattle.at.specs.Processor.{command_mode, line_of, sound, with_line}
 use Rattle.at.specs.At.{command_byte, typed_byte}
@@ -58,7 +58,7 @@ module _ (carrier : Bool) (room : ℕ) where
     abbrev ended : Fed
     ended = typed_byte (after_bytes bytes p) (code "\r") carrier room
 
-    pub line-overlong : sound p ≡ true → 80 < length bytes → (ended.reply ≡ One Error) × (ended.control ≡ Nothing) × (line_of ended.processor ≡ empty_line)
+    pub line-overlong : sound p ≡ true → 80 < length bytes → (ended.reply ≡ One Error) × (ended.control ≡ None) × (line_of ended.processor ≡ empty_line)
     line-overlong e many =
         let over : ran_over (line_of (after_bytes bytes p)) ≡ true = rw line-is ((overlong bytes).mark ∙ lt-ltb 80 (length bytes) many) in
         let command : command_mode (after_bytes bytes p) ≡ true = ap command_mode (all-bytes bytes p mode line) ∙ mode in

@@ -1,10 +1,9 @@
 -- 01, "The AT processor": data mode, the bytes that it sends and its escape. 02, E6: its guard time is that of S12.
-use Rattle.std.specs.Prelude.{ℕ, ◌+◌, ◌*◌, List, [], ◌∷◌, ◌++◌, Bool, true, false, ◌&&◌, ◌||◌, replicate, leb, ltb, eqb}
+use Rattle.std.specs.Prelude.{ℕ, ◌+◌, ◌*◌, List, [], ◌∷◌, ◌++◌, Bool, true, false, ◌&&◌, ◌||◌, replicate, leb, ltb, eqb, None}
 use Prim.Native.Char.{code}
-use Rattle.reply.specs.declared.Reply.TheVariants.{None}
+use Rattle.reply.specs.declared.Reply.TheVariants as reply
 use Rattle.command.specs.Line.{empty_line}
 use Rattle.at.specs.declared.AtProcessor.{AtProcessor}
-use Rattle.at.specs.declared.Control.TheVariants.{Nothing}
 use Rattle.at.specs.declared.Fed.{Fed}
 use Rattle.at.specs.Processor.{command_mode, pluses, with_mode, with_escape, added}
 use Rattle.at.specs.Answer.{quiet}
@@ -35,7 +34,7 @@ released p byte = released_if (withheld p byte) p byte
 abbrev pub data_byte_if : Bool → Bool → AtProcessor → Fed
 data_byte_if true room p = quiet (with_escape (pluses p + 1) 0 p)
 data_byte_if false true p =
-    record { processor = with_escape 0 0 p; reply = None; control = Nothing; sent = pluses p + 1; line = empty_line }
+    record { processor = with_escape 0 0 p; reply = reply.None; control = None; sent = pluses p + 1; line = empty_line }
 data_byte_if false false p = quiet p
 
 unfoldable pub data_byte : AtProcessor → ℕ → ℕ → Fed

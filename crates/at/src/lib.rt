@@ -5,7 +5,7 @@
 
 ghost use Rattle.std.specs.Prelude.{◌≡◌, ◌++◌, ◌+◌, ◌<◌, length, drop};
 ghost use Rattle.ascii.specs.Front.{put};
-ghost use Rattle.at.specs.Processor.{fresh, sound, online, unseen, added};
+ghost use Rattle.at.specs.Processor.{fresh, sound, online, unseen};
 ghost use Rattle.at.specs.Answer.{outcome, quiet};
 ghost use Rattle.at.specs.Command.{executed};
 ghost use Rattle.at.specs.Escape.{guard_time, withheld, pluses_then, released, data_byte, escaped, waited};
@@ -24,13 +24,9 @@ const FRESH_S12: u8 = 50;
 // 700 ms: a carrier that is away for so long is lost.
 const DCD_HOLD_TIME: u64 = 700_000_000;
 
-// Time is added up to here and no further.
-const LONGEST: u64 = 0xffff_ffff_ffff_ffff;
-
 // What the call control has to do.
 #[derive(Clone, Copy)]
 pub enum Control {
-    Nothing,
     Dial,
     Answer,
     Hangup,
@@ -57,29 +53,18 @@ pub struct AtProcessor {
 pub struct Outcome {
     pub processor: AtProcessor,
     pub reply: Reply,
-    pub control: Control,
+    pub control: Option<Control>,
 }
 
 // The answer to a typed byte. `sent` counts the bytes put at the outbox's front. `line` is the line
-// that the byte ended, uppercased, or an empty one: an enum holds no array, so what a dial line has
-// after ATDT comes beside `control`.
+// that the byte ended, uppercased, or an empty one: a dial line's digits stand in it after ATDT.
 #[derive(Clone, Copy)]
 pub struct Fed {
     pub processor: AtProcessor,
     pub reply: Reply,
-    pub control: Control,
+    pub control: Option<Control>,
     pub sent: usize,
     pub line: Line,
-}
-
-fn saturating_add(a: u64, b: u64) -> u64
-    ensures { result ≡ added a b }
-{
-    let room = LONGEST - a;
-    if b <= room {
-        return a + b;
-    }
-    LONGEST
 }
 
 impl AtProcessor {
@@ -87,10 +72,9 @@ impl AtProcessor {
     pub fn new() -> Self
         ensures { result ≡ fresh }
     {
-        let cmd_buf = Line::new();
         AtProcessor {
             in_command_mode: true,
-            cmd_buf,
+            cmd_buf: Line::new(),
             idle: 0,
             plus_count: 0,
             carrier_up: false,
@@ -100,13 +84,14 @@ impl AtProcessor {
     }
 
     // The processor's part of 01's "Sound".
+    #[tactic(auto, unfolding(crate::specs::Processor::sound))]
     pub fn sound(self) -> bool
         ensures { result ≡ sound self }
     {
-        let line = self.cmd_buf;
-        line.sound() & ((self.plus_count <= 3) & (self.carrier_down_for < DCD_HOLD_TIME))
+        self.cmd_buf.sound() && self.plus_count <= 3 && self.carrier_down_for < DCD_HOLD_TIME
     }
 
+    #[tactic(auto, unfolding(crate::specs::At::forced_data))]
     pub fn force_data_mode(self) -> Self
         ensures { result ≡ forced_data self }
     {
@@ -115,6 +100,7 @@ impl AtProcessor {
 
     // One byte typed at the terminal. What it sends goes to the front of `out`. Where that does not
     // fit, nothing changes; 01 declines so short an outbox beforehand.
+    #[tactic(auto, unfolding(crate::specs::At::typed_byte, crate::specs::At::sent))]
     pub fn feed(self, byte: u8, carrier: bool, out: &mut [u8]) -> Fed
         ensures value { result ≡ typed_byte self byte carrier (length out.old) }
         ensures out_after { out.new ≡ put (sent self byte) out.old }
@@ -126,36 +112,40 @@ impl AtProcessor {
     }
 
     // `ns` nanoseconds pass: an escape may be complete, the carrier may have come or gone.
+    #[tactic(auto, unfolding(crate::specs::At::lapse))]
     pub fn advance_time(self, ns: u64, carrier: bool) -> Outcome
         ensures { result ≡ lapse self ns carrier }
     {
         self.advance_idle(ns).poll_carrier(ns, carrier)
     }
 
+    #[tactic(auto, unfolding(crate::specs::Escape::waited, crate::specs::Processor::added))]
     fn advance_idle(self, ns: u64) -> Self
         ensures { result ≡ waited self ns }
     {
         if self.in_command_mode {
             return self;
         }
-        let idle = saturating_add(self.idle, ns);
-        AtProcessor { idle, ..self }.complete_escape()
+        AtProcessor {
+            idle: self.idle.saturating_add(ns),
+            ..self
+        }
+        .complete_escape()
     }
 
     // The silence before and after an escape, and the longest pause inside one.
     fn guard_time(self) -> u64
         ensures { result ≡ guard_time self }
     {
-        let units = self.s12 as u64;
-        units * S12_UNIT
+        u64::from(self.s12) * S12_UNIT
     }
 
     // The three pluses were the signal and no data: they are not sent.
+    #[tactic(auto, unfolding(crate::specs::Escape::escaped))]
     fn complete_escape(self) -> Self
         ensures { result ≡ escaped self }
     {
-        let guard = self.guard_time();
-        if (self.plus_count == 3) & (self.idle >= guard) {
+        if self.plus_count == 3 && self.idle >= self.guard_time() {
             return AtProcessor {
                 in_command_mode: true,
                 idle: 0,
@@ -167,31 +157,31 @@ impl AtProcessor {
     }
 
     // A carrier that comes is announced in data mode alone.
+    #[tactic(auto, unfolding(crate::specs::Carrier::polled, crate::specs::Processor::added))]
     fn poll_carrier(self, ns: u64, carrier: bool) -> Outcome
         ensures { result ≡ polled self ns carrier }
     {
-        if carrier {
-            let seen = AtProcessor {
-                carrier_up: true,
-                carrier_down_for: 0,
-                ..self
-            };
-            if self.carrier_up {
-                return seen.gives(Reply::None, Control::Nothing);
+        match (carrier, self.carrier_up) {
+            (true, seen) => {
+                let reply = if seen || self.in_command_mode {
+                    Reply::None
+                } else {
+                    Reply::One(Code::Connect)
+                };
+                let heard = AtProcessor {
+                    carrier_up: true,
+                    carrier_down_for: 0,
+                    ..self
+                };
+                heard.gives(reply, None)
             }
-            if self.in_command_mode {
-                return seen.gives(Reply::None, Control::Nothing);
-            }
-            return seen.gives(Reply::One(Code::Connect), Control::Nothing);
+            (false, true) => self.carrier_down(self.carrier_down_for.saturating_add(ns)),
+            (false, false) => self.gives(Reply::None, None),
         }
-        if self.carrier_up {
-            let down = saturating_add(self.carrier_down_for, ns);
-            return self.carrier_down(down);
-        }
-        self.gives(Reply::None, Control::Nothing)
     }
 
     // A short dropout does not end the call.
+    #[tactic(auto, unfolding(crate::specs::Carrier::down_for))]
     fn carrier_down(self, down: u64) -> Outcome
         ensures { result ≡ down_for self down }
     {
@@ -201,7 +191,7 @@ impl AtProcessor {
                 carrier_down_for: down,
                 ..self
             };
-            return waiting.gives(Reply::None, Control::Nothing);
+            return waiting.gives(Reply::None, None);
         }
         let hung_up = AtProcessor {
             in_command_mode: true,
@@ -211,9 +201,10 @@ impl AtProcessor {
             carrier_down_for: 0,
             ..self
         };
-        hung_up.gives(Reply::One(Code::NoCarrier), Control::Hangup)
+        hung_up.gives(Reply::One(Code::NoCarrier), Some(Control::Hangup))
     }
 
+    #[tactic(auto, unfolding(crate::specs::At::command_byte))]
     fn feed_command_byte(self, byte: u8, carrier: bool) -> Fed
         ensures { result ≡ command_byte self byte carrier }
     {
@@ -221,27 +212,29 @@ impl AtProcessor {
             b'\n' => self.silent(),
             b'\r' => self.end_line(carrier),
             _ => {
-                let line = self.cmd_buf;
-                let cmd_buf = line.push(byte);
+                let cmd_buf = self.cmd_buf.push(byte);
                 AtProcessor { cmd_buf, ..self }.silent()
             }
         }
     }
 
+    #[tactic(auto, unfolding(crate::specs::At::ended))]
     fn end_line(self, carrier: bool) -> Fed
         ensures { result ≡ ended self carrier }
     {
-        let typed = self.cmd_buf;
-        if typed.len == 0 {
+        if self.cmd_buf.len == 0 {
             return self.silent();
         }
-        let line = typed.to_uppercase();
-        let command = line.command();
-        let cmd_buf = Line::new();
-        let done = AtProcessor { cmd_buf, ..self }.execute(command, carrier);
-        let processor = done.processor;
-        let reply = done.reply;
-        let control = done.control;
+        let line = self.cmd_buf.to_uppercase();
+        let emptied = AtProcessor {
+            cmd_buf: Line::new(),
+            ..self
+        };
+        let Outcome {
+            processor,
+            reply,
+            control,
+        } = emptied.execute(line.command(), carrier);
         Fed {
             processor,
             reply,
@@ -251,11 +244,12 @@ impl AtProcessor {
         }
     }
 
+    #[tactic(auto, unfolding(crate::specs::Command::executed))]
     fn execute(self, command: Command, carrier: bool) -> Outcome
         ensures { result ≡ executed command carrier self }
     {
         match command {
-            Command::At => self.gives(Reply::One(Code::Ok), Control::Nothing),
+            Command::At => self.gives(Reply::One(Code::Ok), None),
             Command::Atz => {
                 let reset = AtProcessor {
                     idle: 0,
@@ -263,60 +257,53 @@ impl AtProcessor {
                     s12: FRESH_S12,
                     ..self
                 };
-                reset.gives(Reply::One(Code::Ok), Control::Nothing)
+                reset.gives(Reply::One(Code::Ok), None)
             }
-            Command::Ati => self.gives(
-                Reply::Two(Code::Identification, Code::Ok),
-                Control::Nothing,
-            ),
+            Command::Ati => self.gives(Reply::Two(Code::Identification, Code::Ok), None),
             Command::Ata => self
                 .forget_carrier()
                 .go_online()
-                .gives(Reply::One(Code::Ok), Control::Answer),
-            Command::Ath => self
-                .forget_carrier()
-                .gives(Reply::Two(Code::Ok, Code::NoCarrier), Control::Hangup),
+                .gives(Reply::One(Code::Ok), Some(Control::Answer)),
+            Command::Ath => self.forget_carrier().gives(
+                Reply::Two(Code::Ok, Code::NoCarrier),
+                Some(Control::Hangup),
+            ),
             Command::Ato => self.resume(carrier),
             Command::Atdt => self
                 .forget_carrier()
                 .go_online()
-                .gives(Reply::One(Code::Ok), Control::Dial),
-            Command::AskS12 => self.gives(Reply::Two(Code::S12, Code::Ok), Control::Nothing),
-            Command::SetS12(n) => AtProcessor { s12: n, ..self }.gives(
-                Reply::One(Code::Ok),
-                Control::Nothing,
-            ),
-            Command::Unknown => self.gives(Reply::One(Code::Error), Control::Nothing),
+                .gives(Reply::One(Code::Ok), Some(Control::Dial)),
+            Command::AskS12 => self.gives(Reply::Two(Code::S12, Code::Ok), None),
+            Command::SetS12(n) => AtProcessor { s12: n, ..self }.gives(Reply::One(Code::Ok), None),
+            Command::Unknown => self.gives(Reply::One(Code::Error), None),
         }
     }
 
     // ATO returns to a call that is still there.
+    #[tactic(auto, unfolding(crate::specs::Command::executed))]
     fn resume(self, carrier: bool) -> Outcome
         ensures { result ≡ executed Command.Ato carrier self }
     {
         if carrier {
-            return self
-                .go_online()
-                .gives(Reply::One(Code::Connect), Control::Nothing);
+            return self.go_online().gives(Reply::One(Code::Connect), None);
         }
-        self.gives(Reply::One(Code::Error), Control::Nothing)
+        self.gives(Reply::One(Code::Error), None)
     }
 
     // The answer to a typed byte that needs none.
     fn silent(self) -> Fed
         ensures { result ≡ quiet self }
     {
-        let line = Line::new();
         Fed {
             processor: self,
             reply: Reply::None,
-            control: Control::Nothing,
+            control: None,
             sent: 0,
-            line,
+            line: Line::new(),
         }
     }
 
-    fn gives(self, reply: Reply, control: Control) -> Outcome
+    fn gives(self, reply: Reply, control: Option<Control>) -> Outcome
         ensures { result ≡ outcome self reply control }
     {
         Outcome {
@@ -348,48 +335,46 @@ impl AtProcessor {
 
     // A byte continues an escape or breaks it. The byte that breaks one is sent after the withheld
     // pluses, and opens no other, even if it is a plus.
+    #[tactic(auto, unfolding(crate::specs::Escape::data_byte))]
     fn feed_data_byte(self, byte: u8, out: &mut [u8]) -> Fed
         ensures value { result ≡ data_byte self byte (length out.old) }
         ensures out_after { out.new ≡ put (released self byte) out.old }
     {
-        let pluses = self.plus_count;
         if self.continues_run(byte) {
-            let plus_count = pluses + 1;
             let waiting = AtProcessor {
                 idle: 0,
-                plus_count,
+                plus_count: self.plus_count + 1,
                 ..self
             };
             return waiting.silent();
         }
-        let held = pluses as usize;
+        let held = usize::from(self.plus_count);
         if out.len() <= held {
             return self.silent();
         }
         send(held, byte, out);
-        let sent = held + 1;
         let processor = AtProcessor {
             idle: 0,
             plus_count: 0,
             ..self
         };
-        let line = Line::new();
         Fed {
-            processor,
-            reply: Reply::None,
-            control: Control::Nothing,
-            sent,
-            line,
+            sent: held + 1,
+            ..processor.silent()
         }
     }
 
+    #[tactic(auto, unfolding(crate::specs::Escape::withheld))]
     fn continues_run(self, byte: u8) -> bool
         ensures { result ≡ withheld self byte }
     {
         let guard = self.guard_time();
-        (byte == b'+')
-            & (((self.plus_count == 0) & (self.idle >= guard))
-                | (((self.plus_count == 1) | (self.plus_count == 2)) & (self.idle <= guard)))
+        byte == b'+'
+            && match self.plus_count {
+                0 => self.idle >= guard,
+                1 | 2 => self.idle <= guard,
+                _ => false,
+            }
     }
 }
 
@@ -398,10 +383,6 @@ fn send(pluses: usize, byte: u8, out: &mut [u8])
     requires { pluses < length out.old }
     ensures { out.new ≡ pluses_then pluses byte ++ drop (pluses + 1) out.old }
 {
-    let mut i = 0;
-    while i < pluses {
-        out[i] = b'+';
-        i += 1;
-    }
+    out[..pluses].fill(b'+');
     out[pluses] = byte;
 }

@@ -13,6 +13,7 @@ use Rattle.schedule.specs.Length.{click_time, dialling_length}
 use Rattle.schedule.proofs.Cases.{click-at-8000, no-digits-at-8000, two-digits-at-8000, three-digits-at-8000}
 use Rattle.reply.specs.declared.Code.TheVariants.{NoCarrier, Error}
 use Rattle.reply.specs.declared.Reply.TheVariants.{None, One}
+use Rattle.std.specs.Prelude.{Some}
 use Rattle.at.specs.declared.Control.TheVariants.{Dial}
 use Rattle.at.specs.Processor.{fresh, online}
 use Rattle.at.specs.At.{after_atdt}
@@ -20,9 +21,9 @@ use Rattle.at.proofs.Cases.{answer_to, atdt12, atdtabcdef, atdp1, at-dt1, sent_a
 
 pub record ProvingCases : Type 0 where
   -- ATDT12: digits 12
-  pub dial-12 : ((answer_to "ATDT12").control ≡ Dial) × (digits_of (after_atdt (answer_to "ATDT12")) ≡ ascii "12")
+  pub dial-12 : ((answer_to "ATDT12").control ≡ Some Dial) × (digits_of (after_atdt (answer_to "ATDT12")) ≡ ascii "12")
   -- atdtabcdef: ABCD
-  pub dial-abcd : ((answer_to "atdtabcdef").control ≡ Dial) × (digits_of (after_atdt (answer_to "atdtabcdef")) ≡ ascii "ABCD")
+  pub dial-abcd : ((answer_to "atdtabcdef").control ≡ Some Dial) × (digits_of (after_atdt (answer_to "atdtabcdef")) ≡ ascii "ABCD")
   -- ATDP1, AT DT1: ERROR
   pub no-dial : ((answer_to "ATDP1").reply ≡ One Error) × ((answer_to "AT DT1").reply ≡ One Error)
   -- plus at idle 1 s withheld, at 999,999,999 ns sent

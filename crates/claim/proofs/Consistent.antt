@@ -22,8 +22,9 @@ use Rattle.passage.proofs.Stages.{never-falls}
 use Rattle.soundness.specs.Sound.{rate_ok, digits_ok}
 use Rattle.soundness.proofs.Limits.{rate-low, rate-high, digits-few}
 use Rattle.at.specs.declared.AtProcessor.{AtProcessor}
+use Rattle.std.specs.Prelude.{Option, Some, None}
 use Rattle.at.specs.declared.Control.{Control}
-use Rattle.at.specs.declared.Control.TheVariants.{Nothing, Dial, Answer, Hangup}
+use Rattle.at.specs.declared.Control.TheVariants.{Dial, Answer, Hangup}
 use Rattle.at.specs.Processor as processor
 use Rattle.at.proofs.Sound.{sound-fresh}
 use Rattle.session.specs.declared.SessionState.{SessionState}
@@ -238,19 +239,19 @@ module _ (r : ℕ) where
             progress = passed-progress k.state k.digits k.count k.shown h sent consistent.progress;
           }
 
-      applied-consistent : (c : Control) (line : List ℕ) (p : AtProcessor) → length line ≤ 76 → processor.sound p ≡ true
+      applied-consistent : (c : Option Control) (line : List ℕ) (p : AtProcessor) → length line ≤ 76 → processor.sound p ≡ true
           → Consistent (applied c line p k) (noted_control c (applied c line p k).state (applied c line p k).shown h)
       unfolding digits_ok all_keys samples
-      applied-consistent Nothing line p short good =
+      applied-consistent None line p short good =
           record {
             processor = good;
             digits = consistent.digits;
             shown = consistent.shown;
             progress = passed-progress k.state k.digits k.count k.shown h h.sent consistent.progress;
           }
-      applied-consistent Answer line p short good = record { processor = good; digits = refl; shown = omega arith; progress = (refl, refl) }
-      applied-consistent Hangup line p short good = record { processor = good; digits = refl; shown = omega arith; progress = (refl, refl) }
-      applied-consistent Dial line p short good =
+      applied-consistent (Some Answer) line p short good = record { processor = good; digits = refl; shown = omega arith; progress = (refl, refl) }
+      applied-consistent (Some Hangup) line p short good = record { processor = good; digits = refl; shown = omega arith; progress = (refl, refl) }
+      applied-consistent (Some Dial) line p short good =
           record {
             processor = good;
             digits = dialled-ok line short;

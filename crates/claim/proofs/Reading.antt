@@ -7,10 +7,10 @@ use mathlib.Core.List.{List, [], ◌∷◌, ◌++◌, map}
 use mathlib.Core.Logic.{◌⊎◌, ◌↔◌}
 use lib.Ieee.{Float, binary32, to_bits, of_bits}
 use lib.ListN.{length, replicate, take}
-use Rattle.std.specs.declared.option.Option.TheVariants as option
-use Rattle.reply.specs.declared.Reply.TheVariants.{None}
+use Rattle.std.specs.Prelude.{Some, None}
+use Rattle.reply.specs.declared.Reply.TheVariants as reply
 use Rattle.at.specs.declared.AtProcessor.{AtProcessor}
-use Rattle.at.specs.declared.Control.TheVariants.{Nothing, Dial}
+use Rattle.at.specs.declared.Control.TheVariants.{Dial}
 use Rattle.at.specs.Before.{ends_s12_line}
 use Rattle.session.specs.declared.SessionState.{SessionState}
 use Rattle.session.specs.declared.SessionState.TheVariants.{Idle, Dialling, Answering, Connected}
@@ -127,13 +127,13 @@ module _ (rate : ℕ) (answer : Made) (d : start.Learnt tt (rate, tt) answer (ra
       pub declined-lent : e.left ≡ e.lent
       declined-lent = unchanged.lent
 
-      pub declined-reply : e.reply ≡ None
+      pub declined-reply : e.reply ≡ reply.None
       declined-reply = unchanged.reply
 
       pub declined-sent : e.sent ≡ 0
       declined-sent = unchanged.sent
 
-      pub declined-key : e.key ≡ option.None
+      pub declined-key : e.key ≡ None
       declined-key = unchanged.key
 
     abbrev after : Book
@@ -275,7 +275,7 @@ module _ (r : ℕ) (k : Book) (left : List Float) (stage : ℕ) (h : SinceDial) 
   fill-noted Answering b = refl
   fill-noted Connected b = refl
 
-  pub call-noted : (line : List ℕ) (p : AtProcessor) → (noted (asks Nothing line p) r k left Dialling stage h).stages ≡ stage ∷ h.stages
+  pub call-noted : (line : List ℕ) (p : AtProcessor) → (noted (asks None line p) r k left Dialling stage h).stages ≡ stage ∷ h.stages
   call-noted line p = refl
 
   pub declined-noted : (cause : Refusal) → (noted (declined cause) r k left Dialling stage h).stages ≡ stage ∷ h.stages
@@ -284,7 +284,7 @@ module _ (r : ℕ) (k : Book) (left : List Float) (stage : ℕ) (h : SinceDial) 
   pub queued-noted : (byte : ℕ) → (noted (queues byte) r k left Dialling stage h).stages ≡ stage ∷ h.stages
   queued-noted byte = refl
 
-  pub dial-noted : (line : List ℕ) (p : AtProcessor) → (noted (asks Dial line p) r k left Dialling stage h).stages ≡ stage ∷ []
+  pub dial-noted : (line : List ℕ) (p : AtProcessor) → (noted (asks (Some Dial) line p) r k left Dialling stage h).stages ≡ stage ∷ []
   dial-noted line p = refl
 
   -- of a fill the buffer is noted as it was left: with the overture's in Dialling, and, 02, E10, with the sender's in Connected, beside the symbols begun

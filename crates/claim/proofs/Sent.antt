@@ -7,8 +7,9 @@ use mathlib.Core.List.{List}
 use lib.Dec.{eqb}
 use lib.Ieee.{Float}
 use Rattle.at.specs.declared.AtProcessor.{AtProcessor}
+use Rattle.std.specs.Prelude.{Option, Some, None}
 use Rattle.at.specs.declared.Control.{Control}
-use Rattle.at.specs.declared.Control.TheVariants.{Nothing, Dial, Answer, Hangup}
+use Rattle.at.specs.declared.Control.TheVariants.{Dial, Answer, Hangup}
 use Rattle.session.specs.declared.SessionState.{SessionState}
 use Rattle.session.specs.declared.SessionState.TheVariants.{Idle, Dialling, Answering, Connected}
 use Rattle.queue.specs.Queue.{empty_queue, waiting, is_full}
@@ -39,12 +40,12 @@ module _ (r : ℕ) where
   pub blank-sent : SentSoFar (blank r) nothing_sent
   blank-sent = sofar-start r empty_queue empty-whole
 
-  applied-sent : (c : Control) (line : List ℕ) (p : AtProcessor) (k : Book) (stage : ℕ) (h : SinceDial) → SentSoFar k h.sent
+  applied-sent : (c : Option Control) (line : List ℕ) (p : AtProcessor) (k : Book) (stage : ℕ) (h : SinceDial) → SentSoFar k h.sent
       → SentSoFar (applied c line p k) (noted_control c (applied c line p k).state stage h).sent
-  applied-sent Nothing line p k stage h s = s
-  applied-sent Dial line p k stage h s = sofar-start r empty_queue empty-whole
-  applied-sent Answer line p k stage h s = sofar-start r empty_queue empty-whole
-  applied-sent Hangup line p k stage h s = sofar-start r empty_queue empty-whole
+  applied-sent None line p k stage h s = s
+  applied-sent (Some Dial) line p k stage h s = sofar-start r empty_queue empty-whole
+  applied-sent (Some Answer) line p k stage h s = sofar-start r empty_queue empty-whole
+  applied-sent (Some Hangup) line p k stage h s = sofar-start r empty_queue empty-whole
 
   raised-sent : (up : Bool) (x : Sending) (o : Sent) → From (raised x r) o → From (sending_from (state_if up) (raised_if up x r)) o
   raised-sent true x o s = s

@@ -13,8 +13,9 @@ use Rattle.command.specs.Line as line
 use Rattle.command.specs.Line.{uppercased}
 use Rattle.command.specs.Command.{begins, is, command_of}
 use Rattle.at.specs.declared.AtProcessor.{AtProcessor}
+use Rattle.std.specs.Prelude.{Option, Some, None}
 use Rattle.at.specs.declared.Control.{Control}
-use Rattle.at.specs.declared.Control.TheVariants.{Nothing, Dial, Answer, Hangup}
+use Rattle.at.specs.declared.Control.TheVariants.{Dial, Answer, Hangup}
 use Rattle.at.specs.Processor.{added}
 use Rattle.at.specs.Command.{executed}
 use Rattle.at.specs.Escape.{withheld, data_byte, escaped, waited}
@@ -42,11 +43,11 @@ use Rattle.claim.proofs.Worked as worked
 use Rattle.claim.proofs.Worked.{T, At, calls, acts, lending_zeros, worked-book}
 
 -- ---- what was queued since the last dial line, answer or hang-up, by the calls alone
-abbrev queued_for : Control → List ℕ → List ℕ
-queued_for Nothing bytes = bytes
-queued_for Dial bytes = []
-queued_for Answer bytes = []
-queued_for Hangup bytes = []
+abbrev queued_for : Option Control → List ℕ → List ℕ
+queued_for None bytes = bytes
+queued_for (Some Dial) bytes = []
+queued_for (Some Answer) bytes = []
+queued_for (Some Hangup) bytes = []
 
 abbrev queued_by : Entry → List ℕ → List ℕ
 queued_by (declined cause) bytes = bytes
@@ -64,11 +65,11 @@ queued-joined k bytes [] later = refl
 queued-joined k bytes (call ∷ before) later = queued-joined (entered 8000 k call) (queued_by (entry_of k call) bytes) before later
 
 module _ (k : Book) (left : List Float) (state : SessionState) (stage : ℕ) (h : SinceDial) where
-  control-queues : (c : Control) → (noted_control c state stage h).sent.queued ≡ queued_for c h.sent.queued
-  control-queues Nothing = refl
-  control-queues Dial = refl
-  control-queues Answer = refl
-  control-queues Hangup = refl
+  control-queues : (c : Option Control) → (noted_control c state stage h).sent.queued ≡ queued_for c h.sent.queued
+  control-queues None = refl
+  control-queues (Some Dial) = refl
+  control-queues (Some Answer) = refl
+  control-queues (Some Hangup) = refl
 
   fill-queues : (was : SessionState) (b : ℕ) → (noted_fill was b 8000 k left state stage h).sent.queued ≡ h.sent.queued
   fill-queues Idle b = refl

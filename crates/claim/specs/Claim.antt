@@ -1,9 +1,9 @@
 -- Demand 3 and 01, "The list of demand 3": what is claimed of a list of single calls from a set fresh at the rate r. Strings.antt has the claim.
-use Rattle.std.specs.Prelude.{ℕ, ◌+◌, ◌≤◌, ◌<◌, ◌≡◌, Bool, true, false, ◌&&◌, ◌||◌, List, [], ◌∷◌, ◌++◌, map, ◌⊎◌, ◌↔◌, eqb, Float, length, replicate}
+use Rattle.std.specs.Prelude.{ℕ, ◌+◌, ◌≤◌, ◌<◌, ◌≡◌, Bool, true, false, ◌&&◌, ◌||◌, List, [], ◌∷◌, ◌++◌, map, ◌⊎◌, ◌↔◌, eqb, Float, length, replicate, Option, Some, None}
 use Rattle.std.specs.Float.{binary32}
 use Rattle.std.specs.Float.Ieee.{to_bits, of_bits}
 use Rattle.at.specs.declared.Control.{Control}
-use Rattle.at.specs.declared.Control.TheVariants.{Nothing, Dial, Answer, Hangup}
+use Rattle.at.specs.declared.Control.TheVariants.{Dial, Answer, Hangup}
 use Rattle.session.specs.declared.SessionState.{SessionState}
 use Rattle.session.specs.declared.SessionState.TheVariants.{Idle, Dialling, Answering, Connected}
 use Rattle.schedule.specs.Bounds.{TotalBounds}
@@ -46,11 +46,11 @@ abbrev pub passed : SessionState → ℕ → SinceDial → SinceDial
 passed state stage h =
     record { called = h.called; joined = h.joined; lengths = h.lengths; stages = seen state stage h.stages; emptied = h.emptied; sent = h.sent }
 
-abbrev pub noted_control : Control → SessionState → ℕ → SinceDial → SinceDial
-noted_control Nothing state stage h = passed state stage h
-noted_control Dial state stage h = record { called = true; joined = []; lengths = 0; stages = seen state stage []; emptied = false; sent = nothing_sent }
-noted_control Answer state stage h = not_called
-noted_control Hangup state stage h = not_called
+abbrev pub noted_control : Option Control → SessionState → ℕ → SinceDial → SinceDial
+noted_control None state stage h = passed state stage h
+noted_control (Some Dial) state stage h = record { called = true; joined = []; lengths = 0; stages = seen state stage []; emptied = false; sent = nothing_sent }
+noted_control (Some Answer) state stage h = not_called
+noted_control (Some Hangup) state stage h = not_called
 
 -- a fill's buffer belongs to the overture while the book is Dialling; 02, E10: in Connected it is the sender's
 abbrev pub noted_fill : SessionState → ℕ → ℕ → Book → List Float → SessionState → ℕ → SinceDial → SinceDial

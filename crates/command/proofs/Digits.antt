@@ -4,29 +4,13 @@ use native.Mathlib.Omega.{arith}
 use native.Mathlib.Numerals.{add-one}
 use mathlib.Core.Path.{◌≡◌, refl, sym, ap, ◌∙◌}
 use mathlib.Core.List.{List, [], ◌∷◌}
-use mathlib.Core.Bool.{Bool, true, false, ◌||◌, cond, and-false}
-use lib.Dec.{leb, ltb}
+use mathlib.Core.Bool.{true, false, and-false}
+use lib.Dec.{leb}
 use lib.ListN.{length, drop, get_or, drop_of_length-le}
 use lib.Seq.{drop-cons}
-use borrow.Author.Tests.{ltb-true, ltb-false, le-leb, lt-leb}
-use Rattle.command.specs.Command.{is_digit, all_digits, value_from, up_to255}
-
--- a byte is a digit, or it is not, by the test that the code makes
-no_digit : (b : ℕ) → (ltb b 48 || ltb 57 b) ≡ true → is_digit b ≡ false
-no_digit b = go (ltb b 48) (ltb 57 b) refl refl
-  where
-    go : (below above : Bool) → ltb b 48 ≡ below → ltb 57 b ≡ above → (below || above) ≡ true → is_digit b ≡ false
-    go true above e f t = rw (lt-leb 48 b (ltb-true b 48 e))
-    go false true e f t = rw (lt-leb b 57 (ltb-true 57 b f), and-false)
-    go false false e f t = let none : ◌≡◌ {A = ℕ} 0 1 = cc in absurd (omega arith)
-
-pub is_digit_lem : (b : ℕ) → (ltb b 48 || ltb 57 b) ≡ false → (48 ≤ b) × (b ≤ 57)
-is_digit_lem b = go (ltb b 48) (ltb 57 b) refl refl
-  where
-    go : (below above : Bool) → ltb b 48 ≡ below → ltb 57 b ≡ above → (below || above) ≡ false → (48 ≤ b) × (b ≤ 57)
-    go false false e f t = (ltb-false b 48 e, ltb-false 57 b f)
-    go false true e f t = let none : ◌≡◌ {A = ℕ} 0 1 = cc in absurd (omega arith)
-    go true above e f t = let none : ◌≡◌ {A = ℕ} 0 1 = cc in absurd (omega arith)
+use borrow.Author.Tests.{le-leb, lt-leb}
+use Rattle.std.specs.Prelude.{Some, None}
+use Rattle.command.specs.Command.{is_digit, all_digits, value_from, number_in}
 
 -- reading on never makes a number less
 grows : (v : ℕ) (bytes : List ℕ) → v ≤ value_from v bytes
@@ -45,9 +29,6 @@ pub at_first : (bytes : List ℕ) → Read bytes 0 0
 at_first bytes = record { within = omega arith; small = omega arith; digits = refl; value = refl }
 
 module _ (bytes : List ℕ) (i v : ℕ) (r : Read bytes i v) where
-  abbrev number : ℕ
-  number = cond (up_to255 bytes) (value_from 0 bytes) 256
-
   module _ (more : i < length bytes) where
     abbrev b : ℕ
     b = get_or bytes i 0
@@ -55,34 +36,33 @@ module _ (bytes : List ℕ) (i v : ℕ) (r : Read bytes i v) where
     here : drop i bytes ≡ b ∷ drop (i + 1) bytes
     here = rw add-one (drop-cons bytes i 0 more)
 
-    pub stopped : (ltb b 48 || ltb 57 b) ≡ true → 256 ≡ number
+    pub stopped : is_digit b ≡ false → None ≡ number_in bytes
     unfolding all_digits
     stopped other =
-        let none : all_digits bytes ≡ false = sym r.digits ∙ ap all_digits here ∙ rw (no_digit b other) in
+        let none : all_digits bytes ≡ false = sym r.digits ∙ ap all_digits here ∙ rw other in
         rw none
 
     next-value : value_from (v * 10 + (b - 48)) (drop (i + 1) bytes) ≡ value_from 0 bytes
     unfolding value_from
     next-value = sym (ap (value_from v) here) ∙ r.value
 
-    pub passed : 255 < v * 10 + (b - 48) → 256 ≡ number
+    pub passed : 255 < v * 10 + (b - 48) → None ≡ number_in bytes
     passed past =
         let all = grows (v * 10 + (b - 48)) (drop (i + 1) bytes) in
         let over : leb (value_from 0 bytes) 255 ≡ false = lt-leb (value_from 0 bytes) 255 (omega (arith, all, next-value)) in
         rw (over, and-false)
 
-    pub again : (ltb b 48 || ltb 57 b) ≡ false → v * 10 + (b - 48) ≤ 255 → Read bytes (i + 1) (v * 10 + (b - 48))
+    pub again : is_digit b ≡ true → (w : ℕ) → w ≡ v * 10 + (b - 48) → w ≤ 255 → Read bytes (i + 1) w
     unfolding all_digits
-    again digit small =
-        let (low, high) = is_digit_lem b digit in
+    again digit w next small =
         record {
           within = omega arith;
           small = small;
-          digits = sym (ap all_digits here ∙ rw (le-leb 48 b low, le-leb b 57 high)) ∙ r.digits;
-          value = next-value;
+          digits = sym (ap all_digits here ∙ rw digit) ∙ r.digits;
+          value = rw next next-value;
         }
 
-  pub ended : length bytes ≤ i → v ≡ number
+  pub ended : length bytes ≤ i → Some v ≡ number_in bytes
   unfolding all_digits value_from
   ended all =
       let none : drop i bytes ≡ [] = drop_of_length-le bytes all in

@@ -5,6 +5,4 @@ pub mod Pushed
 pub mod Cases
 pub mod Overlong
 pub mod Digits
-pub mod Part
-pub mod Setting
 pub mod Forms

@@ -1,5 +1,5 @@
 -- 01, "The AT processor", and 02, E6: which command a line is, once uppercased.
-use Rattle.std.specs.Prelude.{ℕ, ◌+◌, ◌-◌, ◌*◌, List, [], ◌∷◌, Bool, true, false, ◌&&◌, length, drop, leb, eqb}
+use Rattle.std.specs.Prelude.{ℕ, ◌+◌, ◌-◌, ◌*◌, List, [], ◌∷◌, Bool, true, false, ◌&&◌, length, drop, leb, eqb, Option, Some, None}
 use Prim.Native.Char.{code}
 use Rattle.ascii.specs.Ascii.{ascii}
 use Rattle.command.specs.declared.Line.{Line}
@@ -48,6 +48,14 @@ value_from v (b ∷ bytes) = value_from (v * 10 + (b - code "0")) bytes
 
 abbrev pub up_to255 : List ℕ → Bool
 up_to255 n = all_digits n && leb (value_from 0 n) 255
+
+-- the number that digits up to 255 are
+abbrev pub number_if : Bool → ℕ → Option ℕ
+number_if true n = Some n
+number_if false n = None
+
+abbrev pub number_in : List ℕ → Option ℕ
+number_in n = number_if (up_to255 n) (value_from 0 n)
 
 unfoldable pub is_setting : List ℕ → Bool
 is_setting n = (leb 1 (length n) && leb (length n) 3) && up_to255 n

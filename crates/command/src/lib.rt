@@ -2,12 +2,12 @@
 // command that it is.
 #![tactic(auto)]
 
-ghost use Rattle.std.specs.Prelude.{◌≡◌, cond, ◌≤◌, ◌<◌, length, drop};
+ghost use Rattle.std.specs.Prelude.{◌≡◌, ◌-◌, MatchOption, true, false, length, drop};
 ghost use Rattle.command.specs.Line.{empty_line, typed, sound_line, pushed, uppercased};
-ghost use Rattle.command.specs.Command as commands;
-ghost use Rattle.command.specs.Command.{begins, is, value_from, up_to255, setting_of, command_of};
+ghost use Rattle.command.specs.Command.{begins, is, is_digit, setting_of, number_in, command_of};
 
-// A command line: the first `len` of its bytes, and whether more were typed than it holds.
+// A command line: the first `len` of its bytes, and whether more were typed than it holds. C lends
+// its fields, so it is an array with a length and no `Vec`.
 #[derive(Clone, Copy)]
 pub struct Line {
     pub bytes: [u8; 80],
@@ -42,144 +42,119 @@ impl Line {
     }
 
     // The line's part of 01's "Sound".
+    #[tactic(auto, unfolding(crate::specs::Line::sound_line))]
     pub fn sound(self) -> bool
         ensures { result ≡ sound_line self }
     {
-        (self.len <= 80) & !(self.ran_over & (self.len < 80))
+        self.len <= 80 && !(self.ran_over && self.len < 80)
+    }
+
+    // The bytes typed. A `len` that no sound line has takes all.
+    pub fn typed(&self) -> &[u8]
+        ensures { result.now ≡ typed self.now }
+    {
+        self.bytes.get(..self.len).unwrap_or(&self.bytes)
     }
 
     // One byte more. A full line drops it, and remembers that it ran over.
-    pub fn push(self, byte: u8) -> Self
+    #[tactic(auto, unfolding(crate::specs::Line::pushed))]
+    pub fn push(mut self, byte: u8) -> Self
         ensures { result ≡ pushed self byte }
     {
-        let at = self.len;
-        if 80 <= at {
-            return Line {
-                ran_over: true,
-                ..self
-            };
+        if self.len < 80 {
+            self.bytes[self.len] = byte;
+            self.len += 1;
+        } else {
+            self.ran_over = true;
         }
-        let mut line = self;
-        line.bytes[at] = byte;
-        line.len = at + 1;
-        line
+        self
     }
 
     pub fn to_uppercase(self) -> Self
         ensures { result ≡ uppercased self }
     {
-        let mut bytes = self.bytes;
-        let mut i = 0;
-        while i < 80 {
-            bytes[i] = ascii::uppercase(bytes[i]);
-            i += 1;
-        }
-        Line {
-            bytes,
-            len: self.len,
-            ran_over: self.ran_over,
-        }
+        let bytes = self.bytes.map(ascii::uppercase);
+        Line { bytes, ..self }
     }
 
-    fn starts_with(self, text: &[u8]) -> bool
-        requires { length text.now ≤ 80 }
-        ensures { result ≡ begins text.now (typed self) }
+    fn is(&self, text: &[u8]) -> bool
+        ensures { result ≡ is text.now (typed self.now) }
     {
-        let bytes = self.bytes;
-        let len = self.len;
-        if len < text.len() {
-            return false;
-        }
-        let mut i = 0;
-        while i < text.len() {
-            if bytes[i] != text[i] {
-                return false;
-            }
-            i += 1;
-        }
-        true
+        self.typed() == text
     }
 
-    fn equals(self, text: &[u8]) -> bool
-        requires { length text.now < 80 }
-        ensures { result ≡ is text.now (typed self) }
+    // What stands after a text with which the line begins.
+    #[tactic(auto, using(crate::proofs::Begins::prefix))]
+    fn after(&self, text: &[u8]) -> Option<&[u8]>
+        ensures { MatchOption result
+            (begins text.now (typed self.now) ≡ false)
+            (λ rest. (begins text.now (typed self.now) ≡ true) × (rest.now ≡ drop (length text.now) (typed self.now))) }
     {
-        let len = self.len;
-        if len != text.len() {
-            return false;
-        }
-        self.starts_with(text)
+        self.typed().strip_prefix(text)
     }
 
-    // What stands after ATS12=: one to three digits up to 255 are a setting.
-    fn setting(self) -> Command
-        ensures { result ≡ setting_of (drop 6 (typed self)) }
-    {
-        let bytes = self.bytes;
-        let len = self.len;
-        if (len < 7) | (len > 9) {
-            return Command::Unknown;
-        }
-        let from: usize = 6;
-        let n = decimal(&bytes[from..len]);
-        if n > 255 {
-            return Command::Unknown;
-        }
-        Command::SetS12(n as u8)
-    }
-
-    // Which command an uppercased line is: S12's lines and at.rs's arms, from the last up. One that
-    // ran over is none.
+    // Which command an uppercased line is: at.rs's arms, and S12's lines. One that ran over is none.
+    // A `match` on the bytes was tried: its last arm leaves 28 goals, which nothing closes.
+    #[tactic(auto, unfolding(crate::specs::Command::command_of))]
     pub fn command(self) -> Command
         ensures { result ≡ command_of self }
     {
-        let rest = read(
-            self.starts_with(b"ATS12="),
-            self.setting(),
-            Command::Unknown,
-        );
-        let rest = read(self.equals(b"ATS12?"), Command::AskS12, rest);
-        let rest = read(self.starts_with(b"ATDT"), Command::Atdt, rest);
-        let rest = read(self.equals(b"ATO0"), Command::Ato, rest);
-        let rest = read(self.equals(b"ATO"), Command::Ato, rest);
-        let rest = read(self.equals(b"ATH0"), Command::Ath, rest);
-        let rest = read(self.equals(b"ATH"), Command::Ath, rest);
-        let rest = read(self.equals(b"ATA"), Command::Ata, rest);
-        let rest = read(self.equals(b"ATI"), Command::Ati, rest);
-        let rest = read(self.equals(b"ATZ"), Command::Atz, rest);
-        let rest = read(self.equals(b"AT"), Command::At, rest);
-        read(self.ran_over, Command::Unknown, rest)
+        if self.ran_over {
+            Command::Unknown
+        } else if self.is(b"AT") {
+            Command::At
+        } else if self.is(b"ATZ") {
+            Command::Atz
+        } else if self.is(b"ATI") {
+            Command::Ati
+        } else if self.is(b"ATA") {
+            Command::Ata
+        } else if self.is(b"ATH") || self.is(b"ATH0") {
+            Command::Ath
+        } else if self.is(b"ATO") || self.is(b"ATO0") {
+            Command::Ato
+        } else if self.after(b"ATDT").is_some() {
+            Command::Atdt
+        } else if self.is(b"ATS12?") {
+            Command::AskS12
+        } else if let Some(digits) = self.after(b"ATS12=") {
+            setting_of(digits)
+        } else {
+            Command::Unknown
+        }
     }
 }
 
-// The number that decimal digits up to 255 are; of other bytes 256.
-fn decimal(bytes: &[u8]) -> u16
-    ensures { result ≡ cond (up_to255 bytes.now) (value_from 0 bytes.now) 256 }
+// What stands after ATS12=: one to three digits up to 255 are a setting.
+#[tactic(auto, unfolding(crate::specs::Command::setting_of, crate::specs::Command::is_setting))]
+fn setting_of(digits: &[u8]) -> Command
+    ensures { result ≡ setting_of digits.now }
 {
-    let mut value: u16 = 0;
-    let mut i = 0;
-    while i < bytes.len() {
-        let b = bytes[i];
-        if (b < b'0') | (b > b'9') {
-            return 256;
-        }
-        let digit = (b - b'0') as u16;
-        let more = value * 10 + digit;
-        if more > 255 {
-            return 256;
-        }
-        value = more;
-        i += 1;
+    if digits.is_empty() || digits.len() > 3 {
+        return Command::Unknown;
     }
-    value
+    match decimal(digits) {
+        Some(value) => Command::SetS12(value),
+        None => Command::Unknown,
+    }
 }
 
-// This command if the test holds, else what the arms below gave.
-fn read(test: bool, this: Command, rest: Command) -> Command
-    ensures { result ≡ commands.read test this rest }
+// The number that decimal digits up to 255 are.
+fn decimal(bytes: &[u8]) -> Option<u8>
+    ensures { result ≡ number_in bytes.now }
 {
-    if test {
-        return this;
+    let mut value: u8 = 0;
+    for byte in bytes {
+        value = value.checked_mul(10)?.checked_add(digit(*byte)?)?;
     }
-    rest
+    Some(value)
+}
+
+fn digit(byte: u8) -> Option<u8>
+    ensures { MatchOption result (is_digit byte ≡ false) (λ value. (is_digit byte ≡ true) × (value ≡ byte - 48)) }
+{
+    match byte {
+        b'0'..=b'9' => Some(byte - b'0'),
+        _ => None,
+    }
 }

@@ -1,7 +1,7 @@
 -- 01, "Kept, and made new" and "The set": what a session lets the AT processor hear, and what the AT processor asks of it.
-use Rattle.std.specs.Prelude.{ℕ, Bool, false, List}
+use Rattle.std.specs.Prelude.{ℕ, Bool, false, List, Option, Some, None}
 use Rattle.at.specs.declared.Control.{Control}
-use Rattle.at.specs.declared.Control.TheVariants.{Nothing, Dial, Answer, Hangup}
+use Rattle.at.specs.declared.Control.TheVariants.{Dial, Answer, Hangup}
 use Rattle.session.specs.declared.Session.{Session}
 use Rattle.session.specs.declared.SessionState.{SessionState}
 use Rattle.session.specs.declared.SessionState.TheVariants as state
@@ -18,8 +18,8 @@ unfoldable pub heard : Session → Bool → Bool
 heard s carrier = heard_in s.state carrier
 
 -- what the AT processor asks of the call control; `line` is the dial line's bytes after ATDT
-unfoldable pub controlled : Control → Session → List ℕ → ℕ → Session
-controlled Nothing s line r = s
-controlled Dial s line r = dialling line r
-controlled Answer s line r = answering
-controlled Hangup s line r = idle
+unfoldable pub controlled : Option Control → Session → List ℕ → ℕ → Session
+controlled None s line r = s
+controlled (Some Dial) s line r = dialling line r
+controlled (Some Answer) s line r = answering
+controlled (Some Hangup) s line r = idle

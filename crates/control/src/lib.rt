@@ -14,39 +14,25 @@ use session::{Session, SessionState};
 pub fn heard_in(state: SessionState, carrier: bool) -> bool
     ensures { result ≡ heard_in state carrier }
 {
-    match state {
-        SessionState::Idle => false,
-        SessionState::Dialling => carrier,
-        SessionState::Answering => carrier,
-        SessionState::Connected => carrier,
-    }
+    carrier && !matches!(state, SessionState::Idle)
 }
 
-// Dials the line's bytes after ATDT.
+// Dials the line's bytes after ATDT; a line of fewer bytes has none.
 fn dial(line: Line, rate: u32) -> Session
     ensures { result ≡ dialling (drop 4 (command_line.typed line)) rate }
 {
-    let bytes = line.bytes;
-    let len = line.len;
-    let from: usize = 4;
-    if len < from {
-        let none: usize = 0;
-        return Session::dial(&bytes[none..none], rate);
-    }
-    if len > 80 {
-        return Session::dial(&bytes[from..], rate);
-    }
-    Session::dial(&bytes[from..len], rate)
+    Session::dial(line.typed().get(4..).unwrap_or(&[]), rate)
 }
 
-// Does what the AT processor asks of the call control.
-pub fn apply(control: Control, session: Session, line: Line, rate: u32) -> Session
+// Does what the AT processor asks of the call control, if it asks for anything.
+#[tactic(auto, unfolding(crate::specs::Control::controlled))]
+pub fn apply(control: Option<Control>, session: Session, line: Line, rate: u32) -> Session
     ensures { result ≡ controlled control session (drop 4 (command_line.typed line)) rate }
 {
     match control {
-        Control::Nothing => session,
-        Control::Dial => dial(line, rate),
-        Control::Answer => Session::answer(),
-        Control::Hangup => Session::hangup(),
+        None => session,
+        Some(Control::Dial) => dial(line, rate),
+        Some(Control::Answer) => Session::answer(),
+        Some(Control::Hangup) => Session::hangup(),
     }
 }

@@ -17,6 +17,7 @@ use Rattle.ascii.specs.Ascii.{ascii}
 use Rattle.keys.proofs.Line.{dials-12}
 use Rattle.passage.specs.Cue.{InDigitTone}
 use Rattle.soundness.specs.Sound.{rate_ok}
+use Rattle.std.specs.Prelude.{Some}
 use Rattle.at.specs.declared.Control.TheVariants.{Dial}
 use Rattle.at.specs.Processor.{fresh}
 use Rattle.at.proofs.Sound.{sound-fresh}
@@ -103,7 +104,7 @@ call-12 = moved (fresh_set 8000) fresh (dialling (ascii "12") 8000) (fresh_sendi
 
 sound-12 : sound call-12 ≡ true
 unfolding controlled rate_ok
-sound-12 = control-sound (fresh_set 8000) (fresh-sound 8000 refl) Dial (ascii "12") fresh (lit≤ tt) sound-fresh
+sound-12 = control-sound (fresh_set 8000) (fresh-sound 8000 refl) (Some Dial) (ascii "12") fresh (lit≤ tt) sound-fresh
 
 -- 7
 pub position-2 : answer_number (cue_cause call-12 2) ≡ 7

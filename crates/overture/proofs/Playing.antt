@@ -1,6 +1,6 @@
 -- Samples made in a row: what holds while a loop plays them into a buffer, and what a stage that they are the samples of has then written.
 -- By induction on the count. Assumes nothing.
-use Prim.Native.Nat.{ℕ, zero, suc, min, ◌+◌, ◌≤◌, ◌<◌}
+use Prim.Native.Nat.{ℕ, zero, suc, ◌+◌, ◌≤◌, ◌<◌}
 use native.Mathlib.Nat.{le_antisymm, le_refl, le_of_lt, not-suc-le-zero}
 use native.Mathlib.Numerals.{add-one}
 use native.Mathlib.Omega.{arith}
@@ -100,11 +100,9 @@ module _ {X : Type 0} (f : Source X) (x : X) (quiet : f.sample x ≡ float.zero)
 abbrev pub resting : Source ℕ
 resting = record { sample = λ x. float.zero; next = λ x. x }
 
-pub zeros-over : (k : ℕ) (was is : List Float) → PlayedIs resting k 0 was is 0 → is ≡ zeros k ++ drop k was
-zeros-over k was is P = P.buffer ∙ ap (λ (xs : List Float). xs ++ drop k was) (made-zeros resting 0 refl refl k)
-
-pub all-zeros : (was is : List Float) → is ≡ zeros (length was) ++ drop (length was) was → is ≡ zeros (length was)
-all-zeros was is e = e ∙ ap (λ (xs : List Float). zeros (length was) ++ xs) (drop_of_length-le was (le_refl (length was))) ∙ append-nil (zeros (length was))
+-- behind the zeros of a whole part nothing is left
+pub only-zeros : (was is : List Float) → is ≡ zeros (length was) → is ≡ zeros (length was) ++ drop (length was) was
+only-zeros was is e = e ∙ sym (ap (λ (xs : List Float). zeros (length was) ++ xs) (drop_of_length-le was (le_refl (length was))) ∙ append-nil (zeros (length was)))
 
 -- ---- a stage
 

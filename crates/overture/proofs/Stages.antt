@@ -33,9 +33,10 @@ use Rattle.stage.specs.Next.{sample_next, state_next, onward, generate_of, off_h
 use Rattle.overture.specs.declared.Pair.{Pair}
 use Rattle.overture.specs.declared.Click.{Click}
 use Rattle.overture.specs.declared.Sent.{Sent}
+use Rattle.overture.specs.declared.Wrote.{Wrote}
 use Rattle.overture.specs.Iteration.{samples, after, zeros}
-use Rattle.overture.specs.Writers.{Source, mixing, sending, clicking, left, PlayedIs, SentIs, WroteIs}
-use Rattle.overture.proofs.Playing.{wrote, zeros-played, resting}
+use Rattle.overture.specs.Writers.{Source, mixing, sending, clicking, left, PlayedIs, SentIs, AllSent, WroteIs}
+use Rattle.overture.proofs.Playing.{wrote, zeros-played, only-zeros, resting}
 
 module _ (digits : List ℕ) (r : ℕ) (was is : List Float) where
   -- ---- 1
@@ -200,20 +201,30 @@ module _ (digits : List ℕ) (r : ℕ) (was is : List Float) where
         (record { sample = λ j l. sample _; next = λ j l. next _; early = λ j l. lt-leb total _ (B.early j l); shown = λ j l. shown _ _ })
         was is w.fsk B.played B.some B.fits _ _ refl
 
-  pub ci-wrote : (f : FskChannel) (w : Sent) → SentIs f ci_payload ci_bits was is w
-      → WroteIs (Ci f) digits r was is (record { state = Ci w.fsk; ended = leb ci_bits w.fsk.done; written = w.written })
+  told : {s : StageState} (v : Wrote) (t : StageState) (ended : Bool) (written : ℕ) → v.state ≡ t → v.ended ≡ ended → v.written ≡ written
+      → WroteIs s digits r was is (record { state = t; ended = ended; written = written }) → WroteIs s digits r was is v
+  told {s} v t ended written es ee ew W =
+      subst (λ (x : StageState). WroteIs s digits r was is (record { state = x; ended = v.ended; written = v.written })) (sym es)
+      (subst (λ (x : Bool). WroteIs s digits r was is (record { state = t; ended = x; written = v.written })) (sym ee)
+      (subst (λ (x : ℕ). WroteIs s digits r was is (record { state = t; ended = ended; written = x })) (sym ew) W))
+
+  pub ci-wrote : (f : FskChannel) (v : Wrote) (at : FskChannel → StageState → Type 0) → ((g : FskChannel) (s : StageState) → at g s → s ≡ Ci g)
+      → (w : Sent) × AllSent f ci_payload ci_bits was is at w v
+      → WroteIs (Ci f) digits r was is v
   unfolding sample_next state_next generate_of ci_of
-  ci-wrote f w B = bits-wrote f ci_payload ci_bits w B Ci (λ f. refl) (λ f. refl) (λ f g. refl)
+  ci-wrote f v at made (w, A) = told v _ _ _ (made _ _ A.state) A.ended A.written (bits-wrote f ci_payload ci_bits w A.sent Ci (λ f. refl) (λ f. refl) (λ f g. refl))
 
-  pub cm-jm-wrote : (f : FskChannel) (w : Sent) → SentIs f cm_jm_payload cm_jm_bits was is w
-      → WroteIs (CmJm f) digits r was is (record { state = CmJm w.fsk; ended = leb cm_jm_bits w.fsk.done; written = w.written })
+  pub cm-jm-wrote : (f : FskChannel) (v : Wrote) (at : FskChannel → StageState → Type 0) → ((g : FskChannel) (s : StageState) → at g s → s ≡ CmJm g)
+      → (w : Sent) × AllSent f cm_jm_payload cm_jm_bits was is at w v
+      → WroteIs (CmJm f) digits r was is v
   unfolding sample_next state_next generate_of cm_jm_of
-  cm-jm-wrote f w B = bits-wrote f cm_jm_payload cm_jm_bits w B CmJm (λ f. refl) (λ f. refl) (λ f g. refl)
+  cm-jm-wrote f v at made (w, A) = told v _ _ _ (made _ _ A.state) A.ended A.written (bits-wrote f cm_jm_payload cm_jm_bits w A.sent CmJm (λ f. refl) (λ f. refl) (λ f g. refl))
 
-  pub training-wrote : (f : FskChannel) (w : Sent) → SentIs f training_payload training_bits was is w
-      → WroteIs (Training f) digits r was is (record { state = Training w.fsk; ended = leb training_bits w.fsk.done; written = w.written })
+  pub training-wrote : (f : FskChannel) (v : Wrote) (at : FskChannel → StageState → Type 0) → ((g : FskChannel) (s : StageState) → at g s → s ≡ Training g)
+      → (w : Sent) × AllSent f training_payload training_bits was is at w v
+      → WroteIs (Training f) digits r was is v
   unfolding sample_next state_next generate_of training_of
-  training-wrote f w B = bits-wrote f training_payload training_bits w B Training (λ f. refl) (λ f. refl) (λ f g. refl)
+  training-wrote f v at made (w, A) = told v _ _ _ (made _ _ A.state) A.ended A.written (bits-wrote f training_payload training_bits w A.sent Training (λ f. refl) (λ f. refl) (λ f g. refl))
 
   -- 8: its bits, with which it does not end
   pub cj-bits-wrote : (f : FskChannel) (n : ℕ) (w : Sent) → f.done < 60 → SentIs f cj_payload 60 was is w
@@ -234,12 +245,11 @@ module _ (digits : List ℕ) (r : ℕ) (was is : List Float) where
       bits_left (suc j) l = lt-leb 60 _ (B.early j l)
 
   -- ---- 10
-  pub connected-wrote : 0 < length was → is ≡ zeros (length was) ++ drop (length was) was
-      → WroteIs Connected digits r was is (record { state = Connected; ended = false; written = length was })
+  pub connected-wrote : 0 < length was → is ≡ zeros (length was) → WroteIs Connected digits r was is (record { state = Connected; ended = false; written = length was })
   unfolding sample_next state_next generate_of connected_of
   connected-wrote h e =
       wrote resting (λ x j. Connected) (λ x j. false) 0 (length was) digits r
       (record { sample = λ j l. refl; next = λ j l. refl; early = λ j l. refl; shown = λ j l. refl })
       was is 0
-      (zeros-played resting 0 refl refl (length was) was is e)
+      (zeros-played resting 0 refl refl (length was) was is (only-zeros was is e))
       h (le_refl _) _ _ refl

@@ -1,6 +1,6 @@
 -- 01, "The set": "where a stage ends, the rest of the buffer, from its first unwritten sample, is lent on to the next". What a stage's writer
 -- promises of the part that is lent to it. It stops where its stage ends, so how much it wrote, and whether that is all of the stage, is its own to say.
-use Rattle.std.specs.Prelude.{ℕ, zero, suc, ◌≤◌, ◌<◌, ◌≡◌, List, [], ◌∷◌, ◌++◌, length, drop, Float}
+use Rattle.std.specs.Prelude.{ℕ, zero, suc, leb, ◌≤◌, ◌<◌, ◌≡◌, List, [], ◌∷◌, ◌++◌, length, drop, Float}
 use Rattle.math.specs.Narrow.{narrowed}
 use Rattle.schedule.specs.Time.{time_at, saturating_inc}
 use Rattle.nco.specs.declared.Nco.{Nco}
@@ -65,3 +65,10 @@ pub record SentIs (f : FskChannel) (payload : List ℕ) (total : ℕ) (was is : 
   pub fits : w.written ≤ length was
   pub played : PlayedIs (sending payload) w.written f was is w.fsk
   pub early : (j : ℕ) → suc j < w.written → (left (sending payload) (suc j) f).done < total
+
+-- bits as a stage that ends with them, in the state that `at` tells of the channel
+pub record AllSent (f : FskChannel) (payload : List ℕ) (total : ℕ) (was is : List Float) (at : FskChannel → StageState → Type 0) (w : Sent) (v : Wrote) : Type 0 where
+  pub sent : SentIs f payload total was is w
+  pub state : at w.fsk v.state
+  pub ended : v.ended ≡ leb total w.fsk.done
+  pub written : v.written ≡ w.written

@@ -3,7 +3,7 @@
 // Where a stage ends, the rest of the buffer is lent on to the next stage's writer.
 #![tactic(auto)]
 
-ghost use Rattle.std.specs.Prelude.{◌≡◌, true, ◌++◌, ◌≤◌, ◌<◌, length, drop};
+ghost use Rattle.std.specs.Prelude.{◌≡◌, leb, true, ◌++◌, ◌≤◌, ◌<◌, length, drop};
 ghost use Rattle.schedule.specs.Length.{cj_bits};
 ghost use Rattle.stage.specs.declared.StageState.TheVariants.{OffHook, DialTone, Ringback, Ansam, Cj, Connected};
 ghost use Rattle.stage.specs.Next.{dial_state, onward};
@@ -11,7 +11,8 @@ ghost use Rattle.tones.specs.declared.Mixed.{Mixed};
 ghost use Rattle.nco.specs.declared.Nco.{Nco};
 ghost use Rattle.tones.specs.Mixed.{gated_of, answer_of};
 ghost use Rattle.overture.specs.Iteration.{after, samples, shown_after, zeros};
-ghost use Rattle.overture.specs.Writers.{WroteIs, SentIs, PlayedIs, mixing, clicking};
+ghost use Rattle.overture.specs.declared.Sent.{Sent};
+ghost use Rattle.overture.specs.Writers.{WroteIs, SentIs, AllSent, PlayedIs, mixing, clicking};
 
 use fsk::FskChannel;
 use nco::Nco;
@@ -129,169 +130,6 @@ fn play_answer(carrier: Nco, env: Nco, sign: f64, count: usize, out: &mut [f32])
     )
 }
 
-// The state, or the next stage's first where it ended.
-fn next_state(ended: bool, state: StageState, digits: &[u8], rate: u32) -> StageState
-    ensures { result ≡ onward ended state digits.now rate }
-{
-    if ended {
-        let last = state.stage();
-        return stage::enter_state(last.next(), digits, rate);
-    }
-    state
-}
-
-fn write_off_hook(rng: u64, n: u32, digits: &[u8], rate: u32, out: &mut [f32]) -> Wrote
-    requires { 0 < length out.old }
-    ensures { WroteIs (OffHook rng n) digits.now rate out.old out.new result }
-{
-    let end = schedule::stage_samples_for(stage::OFF_HOOK_S, rate);
-    let count = runs::samples_left(n, end, out.len());
-    let c = play_click(rng, n, rate, count, out);
-    let k = c.n;
-    let state = StageState::OffHook { rng: c.rng, n: k };
-    let ended = k as u64 >= end;
-    Wrote {
-        state,
-        ended,
-        written: count,
-    }
-}
-
-fn write_dial_tone(a: Nco, b: Nco, n: u32, digits: &[u8], rate: u32, out: &mut [f32]) -> Wrote
-    requires { 0 < length out.old }
-    ensures { WroteIs (DialTone a b n) digits.now rate out.old out.new result }
-{
-    let end = schedule::stage_samples_for(stage::DIAL_TONE_S, rate);
-    let count = runs::samples_left(n, end, out.len());
-    let p = play_tones(a, b, count, out);
-    let x = p.a;
-    let y = p.b;
-    let k = runs::saturating_add(n, count);
-    let state = StageState::DialTone { a: x, b: y, n: k };
-    let ended = k as u64 >= end;
-    Wrote {
-        state,
-        ended,
-        written: count,
-    }
-}
-
-// One sample, with which digit and tone may change and the stage may end.
-fn write_dialled(dial: Dial, n: u32, digits: &[u8], rate: u32, out: &mut [f32]) -> Wrote
-    requires { 0 < length out.old }
-    ensures { WroteIs (dial_state dial n) digits.now rate out.old out.new result }
-{
-    let k = n.saturating_add(1);
-    let d = tones::dial_step(dial, k, digits, rate);
-    let x = d.dial;
-    let a = x.a;
-    let b = x.b;
-    out[0] = math::narrow(d.sample);
-    let state = StageState::Dialling {
-        digit_i: x.digit,
-        in_tone: x.tone,
-        a,
-        b,
-        n: k,
-    };
-    Wrote {
-        state,
-        ended: d.finished,
-        written: 1,
-    }
-}
-
-// A run of one digit's tone or gap, where one is known.
-fn write_dialling(dial: Dial, n: u32, digits: &[u8], rate: u32, out: &mut [f32]) -> Wrote
-    requires { 0 < length out.old }
-    ensures { WroteIs (dial_state dial n) digits.now rate out.old out.new result }
-{
-    let i = dial.digit;
-    let on = dial.tone;
-    if i < digits.len() as u64 {
-        let count = runs::dialling_run(i, on, n, rate, out.len());
-        if count > 0 {
-            let a = dial.a;
-            let b = dial.b;
-            let p = play_gated(on, a, b, count, out);
-            let x = p.a;
-            let y = p.b;
-            let k = runs::saturating_add(n, count);
-            return Wrote {
-                state: StageState::Dialling {
-                    digit_i: i,
-                    in_tone: on,
-                    a: x,
-                    b: y,
-                    n: k,
-                },
-                ended: false,
-                written: count,
-            };
-        }
-    }
-    write_dialled(dial, n, digits, rate, out)
-}
-
-fn write_ringback(
-    a: Nco,
-    b: Nco,
-    n: u32,
-    ring: u8,
-    digits: &[u8],
-    rate: u32,
-    out: &mut [f32],
-) -> Wrote
-    requires { 0 < length out.old }
-    ensures { WroteIs (Ringback a b n ring) digits.now rate out.old out.new result }
-{
-    let end = schedule::stage_samples_for(stage::RING_STAGE_S, rate);
-    let left = runs::samples_left(n, end, out.len());
-    let count = runs::ring_run(n, rate, left);
-    let progress = schedule::ring_progress(schedule::seconds(n, rate));
-    let p = play_gated(schedule::ringback_gate(progress.time), a, b, count, out);
-    let x = p.a;
-    let y = p.b;
-    let k = runs::saturating_add(n, count);
-    let state = StageState::Ringback {
-        a: x,
-        b: y,
-        n: k,
-        ring: progress.ring,
-    };
-    let ended = k as u64 >= end;
-    Wrote {
-        state,
-        ended,
-        written: count,
-    }
-}
-
-fn write_ansam(carrier: Nco, env: Nco, n: u32, digits: &[u8], rate: u32, out: &mut [f32]) -> Wrote
-    requires { 0 < length out.old }
-    ensures { WroteIs (Ansam carrier env n) digits.now rate out.old out.new result }
-{
-    let end = schedule::stage_samples_for(stage::ANSAM_S, rate);
-    let left = runs::samples_left(n, end, out.len());
-    let count = runs::reversal_run(n, rate, left);
-    let sign = schedule::reversal_sign(schedule::seconds(n, rate));
-    let p = play_answer(carrier, env, sign, count, out);
-    let x = p.a;
-    let y = p.b;
-    let k = runs::saturating_add(n, count);
-    let state = StageState::Ansam {
-        carrier: x,
-        env: y,
-        n: k,
-    };
-    let ended = k as u64 >= end;
-    Wrote {
-        state,
-        ended,
-        written: count,
-    }
-}
-
 // Bits, until all are done: the four stages that send some share this loop. It takes two samples a
 // turn, so that their sines share the lanes of one division.
 fn write_bits(fsk: FskChannel, payload: &[u8], total: u16, out: &mut [f32]) -> Sent
@@ -327,124 +165,289 @@ fn write_bits(fsk: FskChannel, payload: &[u8], total: u16, out: &mut [f32]) -> S
     Sent { fsk: f, written: i }
 }
 
-// Cj's bits; where they end, its zeros are another call's.
-fn write_cj_bits(fsk: FskChannel, n: u32, digits: &[u8], rate: u32, out: &mut [f32]) -> Wrote
-    requires { (fsk.done < cj_bits) × (0 < length out.old) }
-    ensures { WroteIs (Cj fsk n) digits.now rate out.old out.new result }
+// A stage that ends with its bits; `at` makes its state of the channel.
+fn write_all_bits<F: FnOnce(FskChannel) -> StageState>(
+    at: F,
+    fsk: FskChannel,
+    payload: &[u8],
+    total: u16,
+    out: &mut [f32],
+) -> Wrote
+    requires callable { F.IsAlwaysCallable at }
+    requires room { 0 < length out.old }
+    ensures { (w : Sent) × AllSent fsk payload.now total out.old out.new (F.post at) w result }
 {
-    let w = write_bits(fsk, &frame::CJ_PAYLOAD, schedule::CJ_BITS, out);
-    let f = w.fsk;
+    let w = write_bits(fsk, payload, total, out);
     Wrote {
-        state: StageState::Cj {
-            fsk: f,
-            silence_n: n,
-        },
-        ended: false,
+        state: at(w.fsk),
+        ended: w.fsk.done >= total,
         written: w.written,
     }
 }
 
-// Cj's zeros, once its bits are done.
-fn write_cj_silence(fsk: FskChannel, n: u32, digits: &[u8], rate: u32, out: &mut [f32]) -> Wrote
-    requires { (cj_bits ≤ fsk.done) × (0 < length out.old) }
-    ensures { WroteIs (Cj fsk n) digits.now rate out.old out.new result }
-{
-    let end = schedule::stage_samples_for(stage::CJ_SILENCE_S, rate);
-    let count = runs::samples_left(n, end, out.len());
-    write_zeros(count, out);
-    let k = runs::saturating_add(n, count);
-    let state = StageState::Cj { fsk, silence_n: k };
-    let ended = k as u64 >= end;
-    Wrote {
-        state,
-        ended,
-        written: count,
-    }
+// A call that is heard: its digits, and the rate that it is played at.
+#[derive(Clone, Copy)]
+struct Call<'a> {
+    digits: &'a [u8],
+    rate: u32,
 }
 
-fn write_cj(fsk: FskChannel, n: u32, digits: &[u8], rate: u32, out: &mut [f32]) -> Wrote
-    requires { 0 < length out.old }
-    ensures { WroteIs (Cj fsk n) digits.now rate out.old out.new result }
-{
-    if fsk.done < schedule::CJ_BITS {
-        return write_cj_bits(fsk, n, digits, rate, out);
+impl Call<'_> {
+    // The state, or the next stage's first where it ended.
+    fn next_state(&self, wrote: Wrote) -> StageState
+        ensures { result ≡ onward wrote.ended wrote.state self.now.digits.now self.now.rate }
+    {
+        if wrote.ended {
+            let last = wrote.state.stage();
+            return stage::enter_state(last.next(), self.digits, self.rate);
+        }
+        wrote.state
     }
-    write_cj_silence(fsk, n, digits, rate, out)
-}
 
-// A connected line's zeros.
-fn write_connected(digits: &[u8], rate: u32, out: &mut [f32]) -> Wrote
-    requires { 0 < length out.old }
-    ensures { WroteIs Connected digits.now rate out.old out.new result }
-{
-    let room = out.len();
-    write_zeros(room, out);
-    Wrote {
-        state: StageState::Connected,
-        ended: false,
-        written: room,
+    fn write_off_hook(&self, rng: u64, n: u32, out: &mut [f32]) -> Wrote
+        requires { 0 < length out.old }
+        ensures { WroteIs (OffHook rng n) self.now.digits.now self.now.rate out.old out.new result }
+    {
+        let end = schedule::stage_samples_for(stage::OFF_HOOK_S, self.rate);
+        let count = runs::samples_left(n, end, out.len());
+        let c = play_click(rng, n, self.rate, count, out);
+        let k = c.n;
+        let state = StageState::OffHook { rng: c.rng, n: k };
+        let ended = k as u64 >= end;
+        Wrote {
+            state,
+            ended,
+            written: count,
+        }
     }
-}
 
-// Writes samples of the state's stage until the stage ends or the part is full.
-fn write_stage(state: StageState, digits: &[u8], rate: u32, out: &mut [f32]) -> Wrote
-    requires { 0 < length out.old }
-    ensures { WroteIs state digits.now rate out.old out.new result }
-{
-    match state {
-        StageState::OffHook { rng, n } => write_off_hook(rng, n, digits, rate, out),
-        StageState::DialTone { a, b, n } => write_dial_tone(a, b, n, digits, rate, out),
-        StageState::Dialling {
-            digit_i,
-            in_tone,
-            a,
-            b,
-            n,
-        } => write_dialling(
-            Dial {
-                digit: digit_i,
-                tone: in_tone,
+    fn write_dial_tone(&self, a: Nco, b: Nco, n: u32, out: &mut [f32]) -> Wrote
+        requires { 0 < length out.old }
+        ensures { WroteIs (DialTone a b n) self.now.digits.now self.now.rate out.old out.new result }
+    {
+        let end = schedule::stage_samples_for(stage::DIAL_TONE_S, self.rate);
+        let count = runs::samples_left(n, end, out.len());
+        let p = play_tones(a, b, count, out);
+        let k = runs::saturating_add(n, count);
+        let state = StageState::DialTone {
+            a: p.a,
+            b: p.b,
+            n: k,
+        };
+        let ended = k as u64 >= end;
+        Wrote {
+            state,
+            ended,
+            written: count,
+        }
+    }
+
+    // One sample, with which digit and tone may change and the stage may end.
+    fn write_dialled(&self, dial: Dial, n: u32, out: &mut [f32]) -> Wrote
+        requires { 0 < length out.old }
+        ensures { WroteIs (dial_state dial n) self.now.digits.now self.now.rate out.old out.new result }
+    {
+        let k = n.saturating_add(1);
+        let d = tones::dial_step(dial, k, self.digits, self.rate);
+        let x = d.dial;
+        out[0] = math::narrow(d.sample);
+        let state = StageState::Dialling {
+            digit_i: x.digit,
+            in_tone: x.tone,
+            a: x.a,
+            b: x.b,
+            n: k,
+        };
+        Wrote {
+            state,
+            ended: d.finished,
+            written: 1,
+        }
+    }
+
+    // A run of one digit's tone or gap, where one is known.
+    fn write_dialling(&self, dial: Dial, n: u32, out: &mut [f32]) -> Wrote
+        requires { 0 < length out.old }
+        ensures { WroteIs (dial_state dial n) self.now.digits.now self.now.rate out.old out.new result }
+    {
+        let i = dial.digit;
+        let on = dial.tone;
+        if i < self.digits.len() as u64 {
+            let count = runs::dialling_run(i, on, n, self.rate, out.len());
+            if count > 0 {
+                let p = play_gated(on, dial.a, dial.b, count, out);
+                let k = runs::saturating_add(n, count);
+                return Wrote {
+                    state: StageState::Dialling {
+                        digit_i: i,
+                        in_tone: on,
+                        a: p.a,
+                        b: p.b,
+                        n: k,
+                    },
+                    ended: false,
+                    written: count,
+                };
+            }
+        }
+        self.write_dialled(dial, n, out)
+    }
+
+    fn write_ringback(&self, a: Nco, b: Nco, n: u32, ring: u8, out: &mut [f32]) -> Wrote
+        requires { 0 < length out.old }
+        ensures { WroteIs (Ringback a b n ring) self.now.digits.now self.now.rate out.old out.new result }
+    {
+        let end = schedule::stage_samples_for(stage::RING_STAGE_S, self.rate);
+        let left = runs::samples_left(n, end, out.len());
+        let count = runs::ring_run(n, self.rate, left);
+        let progress = schedule::ring_progress(schedule::seconds(n, self.rate));
+        let p = play_gated(schedule::ringback_gate(progress.time), a, b, count, out);
+        let k = runs::saturating_add(n, count);
+        let state = StageState::Ringback {
+            a: p.a,
+            b: p.b,
+            n: k,
+            ring: progress.ring,
+        };
+        let ended = k as u64 >= end;
+        Wrote {
+            state,
+            ended,
+            written: count,
+        }
+    }
+
+    fn write_ansam(&self, carrier: Nco, env: Nco, n: u32, out: &mut [f32]) -> Wrote
+        requires { 0 < length out.old }
+        ensures { WroteIs (Ansam carrier env n) self.now.digits.now self.now.rate out.old out.new result }
+    {
+        let end = schedule::stage_samples_for(stage::ANSAM_S, self.rate);
+        let left = runs::samples_left(n, end, out.len());
+        let count = runs::reversal_run(n, self.rate, left);
+        let sign = schedule::reversal_sign(schedule::seconds(n, self.rate));
+        let p = play_answer(carrier, env, sign, count, out);
+        let k = runs::saturating_add(n, count);
+        let state = StageState::Ansam {
+            carrier: p.a,
+            env: p.b,
+            n: k,
+        };
+        let ended = k as u64 >= end;
+        Wrote {
+            state,
+            ended,
+            written: count,
+        }
+    }
+
+    // Cj's bits; where they end, its zeros are another call's.
+    fn write_cj_bits(&self, fsk: FskChannel, n: u32, out: &mut [f32]) -> Wrote
+        requires { (fsk.done < cj_bits) × (0 < length out.old) }
+        ensures { WroteIs (Cj fsk n) self.now.digits.now self.now.rate out.old out.new result }
+    {
+        let w = write_bits(fsk, &frame::CJ_PAYLOAD, schedule::CJ_BITS, out);
+        Wrote {
+            state: StageState::Cj {
+                fsk: w.fsk,
+                silence_n: n,
+            },
+            ended: false,
+            written: w.written,
+        }
+    }
+
+    // Cj's zeros, once its bits are done.
+    fn write_cj_silence(&self, fsk: FskChannel, n: u32, out: &mut [f32]) -> Wrote
+        requires { (cj_bits ≤ fsk.done) × (0 < length out.old) }
+        ensures { WroteIs (Cj fsk n) self.now.digits.now self.now.rate out.old out.new result }
+    {
+        let end = schedule::stage_samples_for(stage::CJ_SILENCE_S, self.rate);
+        let count = runs::samples_left(n, end, out.len());
+        write_zeros(count, out);
+        let k = runs::saturating_add(n, count);
+        let state = StageState::Cj { fsk, silence_n: k };
+        let ended = k as u64 >= end;
+        Wrote {
+            state,
+            ended,
+            written: count,
+        }
+    }
+
+    fn write_cj(&self, fsk: FskChannel, n: u32, out: &mut [f32]) -> Wrote
+        requires { 0 < length out.old }
+        ensures { WroteIs (Cj fsk n) self.now.digits.now self.now.rate out.old out.new result }
+    {
+        if fsk.done < schedule::CJ_BITS {
+            return self.write_cj_bits(fsk, n, out);
+        }
+        self.write_cj_silence(fsk, n, out)
+    }
+
+    // A connected line's zeros.
+    fn write_connected(&self, out: &mut [f32]) -> Wrote
+        requires { 0 < length out.old }
+        ensures { WroteIs Connected self.now.digits.now self.now.rate out.old out.new result }
+    {
+        let room = out.len();
+        silence(out);
+        Wrote {
+            state: StageState::Connected,
+            ended: false,
+            written: room,
+        }
+    }
+
+    // Writes samples of the state's stage until the stage ends or the part is full.
+    fn write_stage(&self, state: StageState, out: &mut [f32]) -> Wrote
+        requires { 0 < length out.old }
+        ensures { WroteIs state self.now.digits.now self.now.rate out.old out.new result }
+    {
+        match state {
+            StageState::OffHook { rng, n } => self.write_off_hook(rng, n, out),
+            StageState::DialTone { a, b, n } => self.write_dial_tone(a, b, n, out),
+            StageState::Dialling {
+                digit_i,
+                in_tone,
                 a,
                 b,
-            },
-            n,
-            digits,
-            rate,
-            out,
-        ),
-        StageState::Ringback { a, b, n, ring } => {
-            write_ringback(a, b, n, ring, digits, rate, out)
+                n,
+            } => self.write_dialling(
+                Dial {
+                    digit: digit_i,
+                    tone: in_tone,
+                    a,
+                    b,
+                },
+                n,
+                out,
+            ),
+            StageState::Ringback { a, b, n, ring } => { self.write_ringback(a, b, n, ring, out) }
+            StageState::Ci(fsk) => write_all_bits(
+                StageState::Ci,
+                fsk,
+                &frame::CI_PAYLOAD,
+                schedule::CI_BITS,
+                out,
+            ),
+            StageState::Ansam { carrier, env, n } => self.write_ansam(carrier, env, n, out),
+            StageState::CmJm(fsk) => write_all_bits(
+                StageState::CmJm,
+                fsk,
+                &frame::CMJM_PAYLOAD,
+                schedule::CMJM_BITS,
+                out,
+            ),
+            StageState::Cj { fsk, silence_n } => self.write_cj(fsk, silence_n, out),
+            StageState::Training(fsk) => write_all_bits(
+                StageState::Training,
+                fsk,
+                &frame::TRAINING_PAYLOAD,
+                schedule::TRAINING_BITS,
+                out,
+            ),
+            StageState::Connected => self.write_connected(out),
         }
-        StageState::Ci(fsk) => {
-            let w = write_bits(fsk, &frame::CI_PAYLOAD, schedule::CI_BITS, out);
-            let f = w.fsk;
-            Wrote {
-                state: StageState::Ci(f),
-                ended: f.done >= schedule::CI_BITS,
-                written: w.written,
-            }
-        }
-        StageState::Ansam { carrier, env, n } => write_ansam(carrier, env, n, digits, rate, out),
-        StageState::CmJm(fsk) => {
-            let w = write_bits(fsk, &frame::CMJM_PAYLOAD, schedule::CMJM_BITS, out);
-            let f = w.fsk;
-            Wrote {
-                state: StageState::CmJm(f),
-                ended: f.done >= schedule::CMJM_BITS,
-                written: w.written,
-            }
-        }
-        StageState::Cj { fsk, silence_n } => write_cj(fsk, silence_n, digits, rate, out),
-        StageState::Training(fsk) => {
-            let w = write_bits(fsk, &frame::TRAINING_PAYLOAD, schedule::TRAINING_BITS, out);
-            let f = w.fsk;
-            Wrote {
-                state: StageState::Training(f),
-                ended: f.done >= schedule::TRAINING_BITS,
-                written: w.written,
-            }
-        }
-        StageState::Connected => write_connected(digits, rate, out),
     }
 }
 
@@ -462,15 +465,15 @@ pub fn read(state: StageState, digits: &[u8], rate: u32, out: &mut [f32]) -> Fil
     ensures state_value { result.state ≡ after (length out.old) state digits.now rate }
     ensures shown_value { result.shown ≡ shown_after (length out.old) state digits.now rate }
 {
+    let call = Call { digits, rate };
     let mut s = state;
     let mut shown = s.waiting();
     let mut at: usize = 0;
     while at < out.len() {
         shown = s.shown(digits);
-        let w = write_stage(s, digits, rate, &mut out[at..]);
-        let last = w.state;
+        let w = call.write_stage(s, &mut out[at..]);
         at += w.written;
-        s = next_state(w.ended, last, digits, rate);
+        s = call.next_state(w);
     }
     Filled { state: s, shown }
 }

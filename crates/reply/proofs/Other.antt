@@ -2,15 +2,19 @@
 use Prim.Native.Nat.{ℕ, zero, suc}
 use mathlib.Core.Path.{◌≡◌, refl}
 use mathlib.Core.List.{[]}
+use mathlib.Core.Logic.{◌≢◌}
+use Rattle.reply.specs.declared.Code.{Code}
+use Rattle.reply.specs.declared.Code.TheVariants.{Ok, Connect, NoCarrier, Error, Identification, S12}
+use Rattle.reply.specs.Codes.{number_of}
 use Rattle.reply.specs.Texts.{text_of}
 
-pub other : (n s12 : ℕ) → (n ≡ 1 → ⊥) → (n ≡ 2 → ⊥) → (n ≡ 3 → ⊥) → (n ≡ 4 → ⊥) → (n ≡ 5 → ⊥) → (n ≡ 6 → ⊥) → text_of n s12 ≡ []
+pub other : (n s12 : ℕ) → ((code : Code) → n ≢ number_of code) → text_of n s12 ≡ []
 unfolding text_of
-other zero s12 a b c d e f = refl
-other (suc zero) s12 a b c d e f = absurd (a refl)
-other (suc (suc zero)) s12 a b c d e f = absurd (b refl)
-other (suc (suc (suc zero))) s12 a b c d e f = absurd (c refl)
-other (suc (suc (suc (suc zero)))) s12 a b c d e f = absurd (d refl)
-other (suc (suc (suc (suc (suc zero))))) s12 a b c d e f = absurd (e refl)
-other (suc (suc (suc (suc (suc (suc zero)))))) s12 a b c d e f = absurd (f refl)
-other (suc (suc (suc (suc (suc (suc (suc n))))))) s12 a b c d e f = refl
+other zero s12 none = refl
+other (suc zero) s12 none = absurd (none Ok refl)
+other (suc (suc zero)) s12 none = absurd (none Connect refl)
+other (suc (suc (suc zero))) s12 none = absurd (none NoCarrier refl)
+other (suc (suc (suc (suc zero)))) s12 none = absurd (none Error refl)
+other (suc (suc (suc (suc (suc zero))))) s12 none = absurd (none Identification refl)
+other (suc (suc (suc (suc (suc (suc zero)))))) s12 none = absurd (none S12 refl)
+other (suc (suc (suc (suc (suc (suc (suc n))))))) s12 none = refl

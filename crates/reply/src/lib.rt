@@ -2,23 +2,30 @@
 // writer puts a code's text into a buffer.
 #![tactic(auto)]
 
-ghost use Rattle.std.specs.Prelude.{◌≡◌, length};
+ghost use Rattle.std.specs.Prelude.{◌≡◌, ◌≢◌, length, MatchResult};
+ghost use Rattle.reply.specs.declared.Code as declared;
 ghost use Rattle.reply.specs.Codes.{number_of, first_of, second_of};
 ghost use Rattle.ascii.specs.Front.{put, put_length};
 ghost use Rattle.reply.specs.Texts.{three_digits, text_of};
 
+// The numbers are those by which a reply is told.
 #[derive(Clone, Copy)]
 pub enum Code {
-    Ok,
-    Connect,
-    NoCarrier,
-    Error,
-    Identification,
+    Ok = 1,
+    Connect = 2,
+    NoCarrier = 3,
+    Error = 4,
+    Identification = 5,
     // The S12 that the set then holds.
-    S12,
+    S12 = 6,
 }
 
-// Rust's `Option<Response>`: no command gives more than two lines.
+// A number that is no code's.
+#[derive(Clone, Copy)]
+pub struct UnknownCode;
+
+// Rust's `Option<Response>`: no command gives more than two lines. Three cases with a name each
+// are plainer than an `Option` of a code beside an `Option` of another.
 #[derive(Clone, Copy)]
 pub enum Reply {
     None,
@@ -26,18 +33,50 @@ pub enum Reply {
     Two(Code, Code),
 }
 
-impl Code {
-    pub fn number(self) -> u8
-        ensures { result ≡ number_of self }
-    {
-        match self {
-            Code::Ok => 1,
-            Code::Connect => 2,
-            Code::NoCarrier => 3,
-            Code::Error => 4,
-            Code::Identification => 5,
-            Code::S12 => 6,
+impl From<Code> for u8 {
+    ghost from_gives = { λ code number. number ≡ number_of code };
+
+    fn from(code: Code) -> u8 {
+        code as u8
+    }
+}
+
+impl TryFrom<u8> for Code {
+    type Error = UnknownCode;
+
+    ghost try_from_gives = { λ number answer. MatchResult answer (λ code. number ≡ number_of code) (λ _. (code : declared.Code) → number ≢ number_of code) };
+
+    fn try_from(number: u8) -> Result<Code, UnknownCode> {
+        match number {
+            1 => Ok(Code::Ok),
+            2 => Ok(Code::Connect),
+            3 => Ok(Code::NoCarrier),
+            4 => Ok(Code::Error),
+            5 => Ok(Code::Identification),
+            6 => Ok(Code::S12),
+            _ => Err(UnknownCode),
         }
+    }
+}
+
+impl Code {
+    // Writes the code's text at the front of `out` and answers its length; S12's is `s12`. A short
+    // `out` gives 0 and stays as it was.
+    #[tactic(auto, unfolding(crate::specs::Texts::text_of))]
+    pub fn write(self, s12: u8, out: &mut [u8]) -> usize
+        ensures value { result ≡ put_length (text_of (number_of self) s12) (length out.old) }
+        ensures out_after { out.new ≡ put (text_of (number_of self) s12) out.old }
+    {
+        let digits = digits(s12);
+        let text: &[u8] = match self {
+            Code::Ok => b"OK",
+            Code::Connect => b"CONNECT 300",
+            Code::NoCarrier => b"NO CARRIER",
+            Code::Error => b"ERROR",
+            Code::Identification => b"modem-core Bell 103 v1.0.0",
+            Code::S12 => &digits,
+        };
+        ascii::put_front(text, out)
     }
 }
 
@@ -48,8 +87,7 @@ impl Reply {
     {
         match self {
             Reply::None => 0,
-            Reply::One(code) => code.number(),
-            Reply::Two(code, _) => code.number(),
+            Reply::One(code) | Reply::Two(code, _) => code.into(),
         }
     }
 
@@ -58,36 +96,28 @@ impl Reply {
         ensures { result ≡ second_of self }
     {
         match self {
-            Reply::None => 0,
-            Reply::One(_) => 0,
-            Reply::Two(_, code) => code.number(),
+            Reply::None | Reply::One(_) => 0,
+            Reply::Two(_, code) => code.into(),
         }
     }
 }
 
-// Writes S12 in three digits.
-fn write_s12(s12: u8, out: &mut [u8]) -> usize
-    ensures value { result ≡ put_length (three_digits s12) (length out.old) }
-    ensures out_after { out.new ≡ put (three_digits s12) out.old }
+// The three digits of S12.
+#[tactic(auto, unfolding(crate::specs::Texts::three_digits))]
+fn digits(s12: u8) -> [u8; 3]
+    ensures { result ≡ three_digits s12 }
 {
-    let text = [b'0' + s12 / 100, b'0' + s12 / 10 % 10, b'0' + s12 % 10];
-    let from: usize = 0;
-    ascii::put_front(&text[from..], out)
+    [b'0' + s12 / 100, b'0' + s12 / 10 % 10, b'0' + s12 % 10]
 }
 
-// Writes the code's text at the front of `out` and answers its length; 6 stands for `s12`. A short
-// `out` or another number gives 0 and leaves `out` as it was.
+// Writes the text of the code with this number at the front of `out` and answers its length. A
+// short `out` or another number gives 0 and leaves `out` as it was.
 pub fn write_reply(code: u8, s12: u8, out: &mut [u8]) -> usize
     ensures value { result ≡ put_length (text_of code s12) (length out.old) }
     ensures out_after { out.new ≡ put (text_of code s12) out.old }
 {
-    match code {
-        1 => ascii::put_front(b"OK", out),
-        2 => ascii::put_front(b"CONNECT 300", out),
-        3 => ascii::put_front(b"NO CARRIER", out),
-        4 => ascii::put_front(b"ERROR", out),
-        5 => ascii::put_front(b"modem-core Bell 103 v1.0.0", out),
-        6 => write_s12(s12, out),
-        _ => 0,
+    match Code::try_from(code) {
+        Ok(code) => code.write(s12, out),
+        Err(_) => 0,
     }
 }

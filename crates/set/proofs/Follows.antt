@@ -39,8 +39,9 @@ use Rattle.sender.specs.declared.Sending.{Sending}
 use Rattle.sender.specs.Sender.{queued, emptied}
 use Rattle.sender.specs.Wave as wave
 use Rattle.at.specs.declared.AtProcessor.{AtProcessor}
+use Rattle.std.specs.Prelude.{Option, Some, None}
 use Rattle.at.specs.declared.Control.{Control}
-use Rattle.at.specs.declared.Control.TheVariants.{Nothing, Dial, Answer, Hangup}
+use Rattle.at.specs.declared.Control.TheVariants.{Dial, Answer, Hangup}
 use Rattle.at.specs.Processor as processor
 use Rattle.at.specs.At.{typed_byte, lapse, forced_data}
 use Rattle.at.proofs.Sound.{sound-typed, sound-lapse, sound-forced}
@@ -112,14 +113,14 @@ pub record Invariant (r : ℕ) (k : Book) (s : Set) : Type 0 where
 
 -- ---- what the AT processor asks
 module _ (r : ℕ) (k : Book) (s : Set) (f : Follows r k s) where
-  applies : (c : Control) (line : List ℕ) (p : AtProcessor) → length line ≤ 76
+  applies : (c : Option Control) (line : List ℕ) (p : AtProcessor) → length line ≤ 76
       → Follows r (applied c line p k) (moved s p (controlled c s.session line s.rate) (sending_for c s.sending))
   unfolding controlled dialling idle answering after
-  applies Nothing line p short =
+  applies None line p short =
       record { rate = f.rate; processor = refl; state = f.state; digits = f.digits; count = f.count; shown = f.shown; stage = f.stage; sending = f.sending }
-  applies Answer line p short = record { rate = f.rate; processor = refl; state = refl; digits = refl; count = refl; shown = refl; stage = refl; sending = ap emptied f.sending }
-  applies Hangup line p short = record { rate = f.rate; processor = refl; state = refl; digits = refl; count = refl; shown = refl; stage = refl; sending = ap emptied f.sending }
-  applies Dial line p short =
+  applies (Some Answer) line p short = record { rate = f.rate; processor = refl; state = refl; digits = refl; count = refl; shown = refl; stage = refl; sending = ap emptied f.sending }
+  applies (Some Hangup) line p short = record { rate = f.rate; processor = refl; state = refl; digits = refl; count = refl; shown = refl; stage = refl; sending = ap emptied f.sending }
+  applies (Some Dial) line p short =
       record {
         rate = f.rate;
         processor = refl;
@@ -213,7 +214,7 @@ module _ (r : ℕ) (k : Book) (s : Set) (inv : Invariant r k s) where
   unfolding forced forced_cause entry_of controlled
   forcing-effect =
       rw inv.sound (record {
-        follows = rw (ap forced_data inv.follows.processor) (applies r k s inv.follows Nothing [] (forced_data k.processor) zero-le);
+        follows = rw (ap forced_data inv.follows.processor) (applies r k s inv.follows None [] (forced_data k.processor) zero-le);
         sound = forced-sound s inv.sound;
         number = refl;
         key = refl;
@@ -223,11 +224,11 @@ module _ (r : ℕ) (k : Book) (s : Set) (inv : Invariant r k s) where
 
 -- ---- the book's sender stays sound
 module _ (r : ℕ) (ok : rate_ok r ≡ true) where
-  applied-sending : (c : Control) (line : List ℕ) (p : AtProcessor) (k : Book) → SoundSending k.sending r → SoundSending (applied c line p k).sending r
-  applied-sending Nothing line p k h = h
-  applied-sending Dial line p k h = sender.emptied-sound r (rate-low r ok) (rate-high r ok) k.sending h
-  applied-sending Answer line p k h = sender.emptied-sound r (rate-low r ok) (rate-high r ok) k.sending h
-  applied-sending Hangup line p k h = sender.emptied-sound r (rate-low r ok) (rate-high r ok) k.sending h
+  applied-sending : (c : Option Control) (line : List ℕ) (p : AtProcessor) (k : Book) → SoundSending k.sending r → SoundSending (applied c line p k).sending r
+  applied-sending None line p k h = h
+  applied-sending (Some Dial) line p k h = sender.emptied-sound r (rate-low r ok) (rate-high r ok) k.sending h
+  applied-sending (Some Answer) line p k h = sender.emptied-sound r (rate-low r ok) (rate-high r ok) k.sending h
+  applied-sending (Some Hangup) line p k h = sender.emptied-sound r (rate-low r ok) (rate-high r ok) k.sending h
 
   raised-sending : (up : Bool) (x : Sending) → SoundSending x r → SoundSending (raised_if up x r) r
   raised-sending true x h = sender.raised-sound r (rate-low r ok) (rate-high r ok) x h.few

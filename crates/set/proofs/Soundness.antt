@@ -23,8 +23,9 @@ use Rattle.queue.specs.Queue.{queue_ok}
 use Rattle.sender.specs.declared.Sending.{Sending}
 use Rattle.sender.specs.Sender.{emptied}
 use Rattle.at.specs.declared.AtProcessor.{AtProcessor}
+use Rattle.std.specs.Prelude.{Option, Some, None}
 use Rattle.at.specs.declared.Control.{Control}
-use Rattle.at.specs.declared.Control.TheVariants.{Nothing, Dial, Answer, Hangup}
+use Rattle.at.specs.declared.Control.TheVariants.{Dial, Answer, Hangup}
 use Rattle.at.specs.Processor as processor
 use Rattle.at.specs.At.{typed_byte, after_atdt, forced_data}
 use Rattle.at.proofs.Lines.{few-after}
@@ -59,34 +60,34 @@ emptied-ok : (x : Sending) (r : ℕ) → sending_ok x r ≡ true → sending_ok 
 unfolding sending_ok queue_ok
 emptied-ok x r e = rw ((and-eq-true_iff (sender_ok x.sender r) _).0 e).0
 
-sending-for-ok : (c : Control) (x : Sending) (r : ℕ) → sending_ok x r ≡ true → sending_ok (sending_for c x) r ≡ true
-sending-for-ok Nothing x r e = e
-sending-for-ok Dial x r e = emptied-ok x r e
-sending-for-ok Answer x r e = emptied-ok x r e
-sending-for-ok Hangup x r e = emptied-ok x r e
+sending-for-ok : (c : Option Control) (x : Sending) (r : ℕ) → sending_ok x r ≡ true → sending_ok (sending_for c x) r ≡ true
+sending-for-ok None x r e = e
+sending-for-ok (Some Dial) x r e = emptied-ok x r e
+sending-for-ok (Some Answer) x r e = emptied-ok x r e
+sending-for-ok (Some Hangup) x r e = emptied-ok x r e
 
 module _ (s : Set) (ok : sound s ≡ true) where
   rate-ok : rate_ok s.rate ≡ true
   rate-ok = (sound-parts _ _ _ (ranges s ok).state).rate
 
-  pub control-sound : (c : Control) (line : List ℕ) (p : AtProcessor) → length line ≤ 76 → processor.sound p ≡ true
+  pub control-sound : (c : Option Control) (line : List ℕ) (p : AtProcessor) → length line ≤ 76 → processor.sound p ≡ true
       → sound (moved s p (controlled c s.session line s.rate) (sending_for c s.sending)) ≡ true
   unfolding controlled dialling idle answering sound_state state_ok digits_ok all_keys
-  control-sound Nothing line p short good =
+  control-sound None line p short good =
       let q = ranges s ok in
       in-ranges _ (record { digits = q.digits; state = q.state; processor = good; count = q.count; shown = q.shown; sending = q.sending })
-  control-sound Answer line p short good =
-      in-ranges _ (record { digits = zero-le; state = rw rate-ok; processor = good; count = zero-le; shown = zero-le; sending = sending-for-ok Answer _ _ (ranges s ok).sending })
-  control-sound Hangup line p short good =
-      in-ranges _ (record { digits = zero-le; state = rw rate-ok; processor = good; count = zero-le; shown = zero-le; sending = sending-for-ok Hangup _ _ (ranges s ok).sending })
-  control-sound Dial line p short good =
+  control-sound (Some Answer) line p short good =
+      in-ranges _ (record { digits = zero-le; state = rw rate-ok; processor = good; count = zero-le; shown = zero-le; sending = sending-for-ok (Some Answer) _ _ (ranges s ok).sending })
+  control-sound (Some Hangup) line p short good =
+      in-ranges _ (record { digits = zero-le; state = rw rate-ok; processor = good; count = zero-le; shown = zero-le; sending = sending-for-ok (Some Hangup) _ _ (ranges s ok).sending })
+  control-sound (Some Dial) line p short good =
       in-ranges _ (record {
         digits = rw (digits-whole line short) (le_trans (digits-fewer line) short);
         state = rw (digits-whole line short, padded-front (digits_of line)) (first-sound _ (digits_of line) s.rate rate-ok (dialled-ok line short)).1;
         processor = good;
         count = zero-le;
         shown = zero-le;
-        sending = sending-for-ok Dial _ _ (ranges s ok).sending;
+        sending = sending-for-ok (Some Dial) _ _ (ranges s ok).sending;
       })
 
   pub byte-sound : (byte : ℕ) (carrier : Bool) (n : ℕ) → sound (byte_taken s byte carrier n) ≡ true
@@ -100,4 +101,4 @@ module _ (s : Set) (ok : sound s ≡ true) where
 
   pub forced-sound : sound (moved s (forced_data s.processor) s.session s.sending) ≡ true
   unfolding controlled
-  forced-sound = control-sound Nothing [] _ zero-le (sound-forced s.processor (ranges s ok).processor)
+  forced-sound = control-sound None [] _ zero-le (sound-forced s.processor (ranges s ok).processor)

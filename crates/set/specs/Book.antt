@@ -1,5 +1,5 @@
 -- 01, "The list of demand 3": the book, kept from the rate r, the calls and their arguments alone. It never reads the set.
-use Rattle.std.specs.Prelude.{ℕ, zero, suc, ◌+◌, Bool, true, false, List, [], Ok, Err, leb, ltb, eqb, Float, length, Option, None}
+use Rattle.std.specs.Prelude.{ℕ, zero, suc, ◌+◌, Bool, true, false, List, [], Ok, Err, leb, ltb, eqb, Float, length, Option, Some, None}
 use Rattle.keys.specs.Keys.{digits_of}
 use Rattle.keys.specs.declared.Key.{Key}
 use Rattle.schedule.specs.Length.{total}
@@ -7,7 +7,7 @@ use Rattle.stage.specs.Stage.{stage_of, stage_number, key_of}
 use Rattle.overture.specs.Iteration as iteration
 use Rattle.at.specs.declared.AtProcessor.{AtProcessor}
 use Rattle.at.specs.declared.Control.{Control}
-use Rattle.at.specs.declared.Control.TheVariants.{Nothing, Dial, Answer, Hangup}
+use Rattle.at.specs.declared.Control.TheVariants.{Dial, Answer, Hangup}
 use Rattle.at.specs.declared.Fed.{Fed}
 use Rattle.at.specs.declared.Outcome.{Outcome}
 use Rattle.at.specs.Processor.{fresh}
@@ -71,11 +71,11 @@ lapsed_by k ns carrier = lapse k.processor ns (heard_in k.state carrier)
 
 -- an answer makes the state Answering; a hang-up and a lost carrier make it Idle; all three set count and shown stage to 0, and so does a dial
 -- line, which makes it Dialling and notes the digits. 02, E10: all four empty the queue
-abbrev pub applied : Control → List ℕ → AtProcessor → Book → Book
-applied Nothing line p k = record { processor = p; state = k.state; digits = k.digits; count = k.count; shown = k.shown; sending = k.sending }
-applied Answer line p k = record { processor = p; state = Answering; digits = []; count = 0; shown = 0; sending = emptied k.sending }
-applied Hangup line p k = record { processor = p; state = Idle; digits = []; count = 0; shown = 0; sending = emptied k.sending }
-applied Dial line p k = record { processor = p; state = Dialling; digits = digits_of line; count = 0; shown = 0; sending = emptied k.sending }
+abbrev pub applied : Option Control → List ℕ → AtProcessor → Book → Book
+applied None line p k = record { processor = p; state = k.state; digits = k.digits; count = k.count; shown = k.shown; sending = k.sending }
+applied (Some Answer) line p k = record { processor = p; state = Answering; digits = []; count = 0; shown = 0; sending = emptied k.sending }
+applied (Some Hangup) line p k = record { processor = p; state = Idle; digits = []; count = 0; shown = 0; sending = emptied k.sending }
+applied (Some Dial) line p k = record { processor = p; state = Dialling; digits = digits_of line; count = 0; shown = 0; sending = emptied k.sending }
 
 -- ---- a fill of b samples in Dialling
 -- the shown stage is then that of sample count, or, with b = 0, that of sample count + 1
@@ -113,7 +113,7 @@ filled_in Connected r k b = sending_now (wave.after b k.sending) k
 -- is queued
 pub data Entry : Type 0 where
   declined : (cause : Refusal) → Entry
-  asks : (control : Control) (line : List ℕ) (p : AtProcessor) → Entry
+  asks : (control : Option Control) (line : List ℕ) (p : AtProcessor) → Entry
   fills : (b : ℕ) → Entry
   queues : (byte : ℕ) → Entry
 
@@ -127,7 +127,7 @@ entry_of k (typing byte carrier room) =
     let fed = fed_by k byte carrier room in
     unless_declined (cause_of_typing true (leb 4 room)) (asks fed.control (after_atdt fed) fed.processor)
 entry_of k (time ns carrier) = asks (lapsed_by k ns carrier).control [] (lapsed_by k ns carrier).processor
-entry_of k forcing = asks Nothing [] (forced_data k.processor)
+entry_of k forcing = asks None [] (forced_data k.processor)
 entry_of k (filling b) = unless_declined (cause_of_fill true (ltb 65536 b)) (fills b)
 entry_of k (queuing byte) = unless_declined (cause_of_queuing true (is_full k.sending.queue)) (queues byte)
 

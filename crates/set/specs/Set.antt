@@ -1,13 +1,13 @@
 -- 01, "The set" and "When a call is declined": the public calls. Each has its cause; a declined call has no reply, sends 0 bytes, and leaves the
 -- set and what is lent to it as they were.
-use Rattle.std.specs.Prelude.{ℕ, Bool, true, false, List, [], leb, ltb, eqb, length, Float, Result, Option, None}
+use Rattle.std.specs.Prelude.{ℕ, Bool, true, false, List, [], leb, ltb, eqb, length, Float, Result, Option, Some, None}
 use Rattle.ascii.specs.Front.{put}
 use Rattle.keys.specs.declared.Key.{Key}
 use Rattle.reply.specs.declared.Reply.{Reply}
 use Rattle.reply.specs.declared.Reply.TheVariants as reply
 use Rattle.at.specs.declared.AtProcessor.{AtProcessor}
 use Rattle.at.specs.declared.Control.{Control}
-use Rattle.at.specs.declared.Control.TheVariants.{Nothing, Dial, Answer, Hangup}
+use Rattle.at.specs.declared.Control.TheVariants.{Dial, Answer, Hangup}
 use Rattle.at.specs.Processor.{fresh}
 use Rattle.at.specs.At.{typed_byte, sent, after_atdt, lapse, forced_data}
 use Rattle.session.specs.declared.Session.{Session}
@@ -41,11 +41,11 @@ abbrev pub moved : Set → AtProcessor → Session → Sending → Set
 moved s processor session sending = record { rate = s.rate; processor = processor; session = session; sending = sending }
 
 -- 02, E10: "dial, answer and hang-up empty the queue"; a lost carrier is a hang-up
-abbrev pub sending_for : Control → Sending → Sending
-sending_for Nothing x = x
-sending_for Dial x = emptied x
-sending_for Answer x = emptied x
-sending_for Hangup x = emptied x
+abbrev pub sending_for : Option Control → Sending → Sending
+sending_for None x = x
+sending_for (Some Dial) x = emptied x
+sending_for (Some Answer) x = emptied x
+sending_for (Some Hangup) x = emptied x
 
 -- creation: a rate outside limits gives a fresh set at 8,000
 unfoldable pub creation_cause : ℕ → Checked

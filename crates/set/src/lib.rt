@@ -89,14 +89,12 @@ fn fresh(rate: u32) -> Set
 }
 
 // Dial, answer and hang-up empty the queue.
-fn sending_for(control: Control, sending: Sending) -> Sending
+fn sending_for(control: Option<Control>, sending: Sending) -> Sending
     ensures { result ≡ sending_for control sending }
 {
     match control {
-        Control::Nothing => sending,
-        Control::Dial => sending.emptied(),
-        Control::Answer => sending.emptied(),
-        Control::Hangup => sending.emptied(),
+        None => sending,
+        Some(Control::Dial | Control::Answer | Control::Hangup) => sending.emptied(),
     }
 }
 

@@ -18,6 +18,7 @@ pub mod sending;
 const MAX_DIGITS: usize = 76;
 
 // Rate in limits.
+#[tactic(auto, unfolding(crate::specs::Sound::rate_ok))]
 pub fn rate_ok(rate: u32) -> bool
     ensures { result ≡ rate_ok rate }
 {
@@ -25,6 +26,7 @@ pub fn rate_ok(rate: u32) -> bool
 }
 
 // At most 76, all keys. Of more than that none is looked at.
+#[tactic(auto, unfolding(crate::specs::Sound::digits_ok))]
 pub fn digits_ok(digits: &[u8]) -> bool
     ensures { result ≡ digits_ok digits.now }
 {
@@ -42,6 +44,7 @@ fn in_symbol(phase: f64) -> bool
 }
 
 // An oscillator's rate is r.
+#[tactic(auto, unfolding(crate::specs::Sound::nco_ok))]
 fn nco_ok(o: Nco, rate: u32) -> bool
     ensures { result ≡ nco_ok o rate }
 {
@@ -49,6 +52,7 @@ fn nco_ok(o: Nco, rate: u32) -> bool
 }
 
 // A symbol step is 300 / r.
+#[tactic(auto, unfolding(crate::specs::Sound::modulator_ok))]
 pub fn modulator_ok(m: Modulator, rate: u32) -> bool
     ensures { result ≡ modulator_ok m rate }
 {
@@ -76,28 +80,11 @@ fn goes_on(n: u32, duration: f64, rate: u32) -> bool
     (n as u64) < schedule::stage_samples_for(duration, rate)
 }
 
-// n is below the samples of d digits: at n = 0 always, and from then on while i < d.
-fn dialling_goes_on(n: u32, d: u64, rate: u32) -> bool
-    requires rate_value { rate_ok rate ≡ true }
-    requires d_bound { d ≤ 76 }
-    ensures { result ≡ ltb n (dialling_length rate d) }
-{
-    let phase = schedule::dialling_phase(schedule::seconds(n, rate));
-    (n == 0) | (phase.digit < d)
-}
-
+#[tactic(auto, unfolding(crate::specs::Sound::tones_ok))]
 fn tones_ok(a: Nco, b: Nco, n: u32, duration: f64, rate: u32) -> bool
     ensures { result ≡ tones_ok a b n duration rate }
 {
     nco_ok(a, rate) & (nco_ok(b, rate) & goes_on(n, duration, rate))
-}
-
-fn dialling_ok(digit: u64, a: Nco, b: Nco, n: u32, d: u64, rate: u32) -> bool
-    requires rate_value { rate_ok rate ≡ true }
-    requires d_bound { d ≤ 76 }
-    ensures { result ≡ dialling_ok digit a b n d rate }
-{
-    digit_ok(digit, d) & (nco_ok(a, rate) & (nco_ok(b, rate) & dialling_goes_on(n, d, rate)))
 }
 
 fn ringback_ok(a: Nco, b: Nco, n: u32, ring: u8, rate: u32) -> bool
@@ -106,6 +93,7 @@ fn ringback_ok(a: Nco, b: Nco, n: u32, ring: u8, rate: u32) -> bool
     ring_ok(ring) & tones_ok(a, b, n, stage::RING_STAGE_S, rate)
 }
 
+#[tactic(auto, unfolding(crate::specs::Sound::bits_ok))]
 fn bits_ok(fsk: FskChannel, bits: u16, rate: u32) -> bool
     ensures { result ≡ bits_ok fsk bits rate }
 {
@@ -114,6 +102,7 @@ fn bits_ok(fsk: FskChannel, bits: u16, rate: u32) -> bool
 }
 
 // All of Cj's bits may be done: its zeros come after them.
+#[tactic(auto, unfolding(crate::specs::Sound::cj_ok))]
 fn cj_ok(fsk: FskChannel, silence: u32, rate: u32) -> bool
     ensures { result ≡ cj_ok fsk silence rate }
 {
@@ -122,40 +111,76 @@ fn cj_ok(fsk: FskChannel, silence: u32, rate: u32) -> bool
         & ((fsk.done <= schedule::CJ_BITS) & goes_on(silence, stage::CJ_SILENCE_S, rate))
 }
 
-// A state by its kind, once rate and digits are known to be in their limits.
-fn state_ok(state: StageState, d: u64, rate: u32) -> bool
-    requires rate_value { rate_ok rate ≡ true }
-    requires d_bound { d ≤ 76 }
-    ensures { result ≡ state_ok state d rate }
-{
-    match state {
-        StageState::OffHook { rng: _, n } => goes_on(n, stage::OFF_HOOK_S, rate),
-        StageState::DialTone { a, b, n } => tones_ok(a, b, n, stage::DIAL_TONE_S, rate),
-        StageState::Dialling {
-            digit_i,
-            in_tone: _,
-            a,
-            b,
-            n,
-        } => dialling_ok(digit_i, a, b, n, d, rate),
-        StageState::Ringback { a, b, n, ring } => ringback_ok(a, b, n, ring, rate),
-        StageState::Ci(fsk) => bits_ok(fsk, schedule::CI_BITS, rate),
-        StageState::Ansam { carrier, env, n } => tones_ok(carrier, env, n, stage::ANSAM_S, rate),
-        StageState::CmJm(fsk) => bits_ok(fsk, schedule::CMJM_BITS, rate),
-        StageState::Cj { fsk, silence_n } => cj_ok(fsk, silence_n, rate),
-        StageState::Training(fsk) => bits_ok(fsk, schedule::TRAINING_BITS, rate),
-        StageState::Connected => true,
+// A call that may be: its rate, in the limits, and how many digits it has, 76 at most.
+#[derive(Clone, Copy)]
+struct Call {
+    digits: u64,
+    rate: u32,
+    ghost rate_value: { rate_ok rate ≡ true },
+    ghost few: { digits ≤ 76 },
+}
+
+impl Call {
+    // n is below the samples of the digits: at n = 0 always, and from then on while i < d.
+    fn dialling_goes_on(self, n: u32) -> bool
+        ensures { result ≡ ltb n (dialling_length self.rate self.digits) }
+    {
+        let phase = schedule::dialling_phase(schedule::seconds(n, self.rate));
+        (n == 0) | (phase.digit < self.digits)
+    }
+
+    #[tactic(auto, unfolding(crate::specs::Sound::dialling_ok))]
+    fn dialling_ok(self, digit: u64, a: Nco, b: Nco, n: u32) -> bool
+        ensures { result ≡ dialling_ok digit a b n self.digits self.rate }
+    {
+        digit_ok(digit, self.digits)
+            & (nco_ok(a, self.rate) & (nco_ok(b, self.rate) & self.dialling_goes_on(n)))
+    }
+
+    // A state by its kind.
+    #[tactic(auto, unfolding(crate::specs::Sound::state_ok))]
+    fn state_ok(self, state: StageState) -> bool
+        ensures { result ≡ state_ok state self.digits self.rate }
+    {
+        let rate = self.rate;
+        match state {
+            StageState::OffHook { rng: _, n } => goes_on(n, stage::OFF_HOOK_S, rate),
+            StageState::DialTone { a, b, n } => tones_ok(a, b, n, stage::DIAL_TONE_S, rate),
+            StageState::Dialling {
+                digit_i,
+                in_tone: _,
+                a,
+                b,
+                n,
+            } => self.dialling_ok(digit_i, a, b, n),
+            StageState::Ringback { a, b, n, ring } => ringback_ok(a, b, n, ring, rate),
+            StageState::Ci(fsk) => bits_ok(fsk, schedule::CI_BITS, rate),
+            StageState::Ansam { carrier, env, n } => tones_ok(
+                carrier,
+                env,
+                n,
+                stage::ANSAM_S,
+                rate,
+            ),
+            StageState::CmJm(fsk) => bits_ok(fsk, schedule::CMJM_BITS, rate),
+            StageState::Cj { fsk, silence_n } => cj_ok(fsk, silence_n, rate),
+            StageState::Training(fsk) => bits_ok(fsk, schedule::TRAINING_BITS, rate),
+            StageState::Connected => true,
+        }
     }
 }
 
 // The digits and the rate are asked too, since a stage's own end follows from them.
+#[tactic(auto, unfolding(crate::specs::Sound::sound_state))]
 pub fn sound_state(state: StageState, digits: &[u8], rate: u32) -> bool
     ensures { result ≡ sound_state state digits.now rate }
 {
-    if rate_ok(rate) {
-        if digits_ok(digits) {
-            return state_ok(state, digits.len() as u64, rate);
-        }
+    if rate_ok(rate) && digits_ok(digits) {
+        let call = Call {
+            digits: digits.len() as u64,
+            rate,
+        };
+        return call.state_ok(state);
     }
     false
 }

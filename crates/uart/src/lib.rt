@@ -126,7 +126,7 @@ impl Inbox {
         ensures { self.new ≡ received self.old (closed code s12) }
     {
         let mut text = [0u8; 32];
-        let n = reply::write_reply(code.number(), s12, &mut text);
+        let n = code.write(s12, &mut text);
         self.bytes(&text[..n]);
         self.byte(b'\r');
         self.byte(b'\n');

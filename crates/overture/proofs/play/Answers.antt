@@ -1,10 +1,8 @@
 -- `play` meets its contract: the invariant is `Playing`, by whichever function tells what `mix` returns. Assumes nothing.
-use Prim.Native.Nat.{◌<◌, ◌≤◌}
 use native.Mathlib.Omega.{arith}
-use mathlib.Core.Path.{◌≡◌, ap, ◌∙◌}
-use lib.ListN.{length, take, length-take}
+use mathlib.Core.Path.{ap, ◌∙◌}
+use lib.ListN.{length-take}
 use Rattle.math.specs.Narrow.{narrowed}
-use Rattle.nco.specs.declared.Nco.{Nco}
 use Rattle.tones.specs.declared.Mixed.{Mixed}
 use Rattle.overture.specs.declared.Pair.{Pair}
 use Rattle.overture.proofs.Playing.{playing-start, playing-again, playing-done, in-part, part-done, part-played}

@@ -1,8 +1,7 @@
 -- `play_click` meets its contract: the invariant is `Playing`. Assumes nothing.
-use Prim.Native.Nat.{◌<◌, ◌≤◌}
 use native.Mathlib.Omega.{arith}
 use mathlib.Core.Path.{sym, ◌∙◌}
-use lib.ListN.{length, take, length-take}
+use lib.ListN.{length-take}
 use Rattle.schedule.proofs.Count.{saturating_inc_is}
 use Rattle.overture.proofs.Playing.{playing-start, playing-again, playing-done, in-part, part-done, part-played}
 use Rattle.overture.proofs.play_click.Goals as goal

@@ -1,5 +1,4 @@
 -- `dialling_run` meets its contract off the edges, by `one-tone` and `one-gap`. Assumes nothing.
-use Prim.Native.Nat.{◌≤◌}
 use mathlib.Core.Path.{sym, ◌∙◌}
 use native.Mathlib.Nat.{lt_of_lt_of_le}
 use native.Mathlib.Omega.{arith}

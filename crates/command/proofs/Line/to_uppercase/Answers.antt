@@ -1,37 +1,16 @@
--- `command::Line::to_uppercase` meets its contract. The invariant: what is uppercased, followed by what is to come uppercased, is the line uppercased.
--- Assumes nothing.
-use Prim.Native.Nat.{◌<◌}
-use mathlib.Core.Path.{refl, sym, ◌∙◌}
-use lib.ListN.{length, length-set}
+-- `command::Line::to_uppercase` meets its contract: each byte is raised. Assumes nothing.
+use mathlib.Core.Path.{sym, ◌∙◌, ◌≡◌}
+use lib.ListN.{length}
 use native.Mathlib.Omega.{arith}
 use borrow.Author.Rules.{rules}
 use Rattle.ascii.specs.Upper.{upper}
 use Rattle.command.specs.Line.{uppercased}
-use Rattle.command.proofs.Mapped.{turn, done}
+use Rattle.command.proofs.Mapped.{mapped}
 use Rattle.command.proofs.Line.to_uppercase.Goals as goal
-
-pub loop-i-init : goal.loop-i-init
-loop-i-init c = (omega arith, search rules, refl)
-
-pub bounds-bytes-i : goal.bounds-bytes-i
-bounds-bytes-i c = omega arith
-
-pub bounds-bytes-i-in-loop-i : goal.bounds-bytes-i-in-loop-i
-bounds-bytes-i-in-loop-i c = omega arith
-
-pub overflow_add-i : goal.overflow_add-i
-overflow_add-i c = omega arith
-
-pub loop-i-smaller : goal.loop-i-smaller
-loop-i-smaller c = omega arith
-
-pub loop-i-preserved : goal.loop-i-preserved
-loop-i-preserved c = let l = c.loop-i in
-    let below : l.i < length l.bytes = omega arith in
-    (omega arith, simp length-set l.invariant.1, rw c.uppercase.ensures (turn upper l.bytes l.i below ∙ l.invariant.2))
 
 pub returns : goal.returns
 unfolding uppercased
-returns c = let l = c.loop-i in
-    let all = sym (done upper l.bytes l.i (omega arith)) ∙ l.invariant.2 in
-    rw all
+returns c =
+    let full : length c.args.self.bytes ≡ 80 = search rules in
+    let items = c.map-bytes.ensures.items in
+    rw (mapped upper c.args.self.bytes c.map-bytes.result (items.long ∙ sym full) (λ i below. let (p, q, raised) = items.at i 0 0 (omega arith) in search rules))

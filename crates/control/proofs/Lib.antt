@@ -1,2 +1,0 @@
--- Laws on a dial line's bytes.
-pub mod Prefix

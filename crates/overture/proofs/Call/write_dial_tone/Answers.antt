@@ -1,0 +1,9 @@
+-- `write_dial_tone` meets its contract: two tones are played to the end of the stage or of the part. Assumes nothing.
+use native.Mathlib.Nat.{le_refl}
+use Rattle.overture.proofs.Stages.{dial-tone-wrote}
+use Rattle.overture.proofs.Call.write_dial_tone.Goals as goal
+
+pub returns : goal.returns
+returns c = dial-tone-wrote _ _ _ _ _ _ _ _ _ c.samples_left-count.ensures (le_refl _) (c.samples_left-count.ensures.some c.requires) c.saturating_add-k.ensures _ _ _
+    c.stage_samples_for-end.ensures
+    c.play_tones-p.ensures

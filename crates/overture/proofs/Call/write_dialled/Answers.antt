@@ -1,0 +1,13 @@
+-- `write_dialled` meets its contract: it is one step of the iteration. Assumes nothing.
+use mathlib.Core.Path.{refl, sym, ◌∙◌}
+use native.Mathlib.Omega.{arith}
+use Rattle.schedule.proofs.Count.{saturating_inc_is}
+use Rattle.stage.specs.Next.{sample_next, state_next, generate_of, dialling_of}
+use Rattle.overture.proofs.Stages.{one-wrote}
+use Rattle.overture.proofs.Call.write_dialled.Goals as goal
+
+pub returns : goal.returns
+unfolding sample_next state_next generate_of dialling_of
+returns c =
+    let counted = c.saturating_add-k.ensures ∙ sym (saturating_inc_is _ (omega (arith, c.ranges.n))) in
+    one-wrote _ _ _ _ _ _ _ _ c.requires (rw (c.narrow.ensures, c.dial_step-d.ensures, counted)) (rw (c.dial_step-d.ensures, counted)) refl

@@ -1,0 +1,12 @@
+-- `write_ringback` meets its contract: a run in tone or in a gap is played, and with it the stage may end. Assumes nothing.
+use Rattle.overture.proofs.Stages.{ringback-wrote}
+use Rattle.overture.proofs.Call.write_ringback.Goals as goal
+
+pub returns : goal.returns
+returns c = ringback-wrote _ _ _ _ _ _ _ _ _ c.samples_left-left.ensures c.ring_run-count.ensures.fits (c.ring_run-count.ensures.some (c.samples_left-left.ensures.some c.requires)) c.saturating_add-k.ensures _ _ _ _ c.ring_run-count.ensures
+    c.stage_samples_for-end.ensures _ _ _ _
+    c.seconds.ensures
+    c.ring_progress-progress.ensures.1
+    c.ringback_gate.ensures
+    c.ring_progress-progress.ensures.0
+    c.play_gated-p.ensures

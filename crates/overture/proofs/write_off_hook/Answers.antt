@@ -1,6 +1,0 @@
--- `write_off_hook` meets its contract: the click is played to the end of the stage or of the part. Assumes nothing.
-use Rattle.overture.proofs.Stages.{off-hook-wrote}
-use Rattle.overture.proofs.write_off_hook.Goals as goal
-
-pub returns : goal.returns
-returns c = off-hook-wrote _ _ _ _ _ _ _ _ c.requires c.samples_left-count.ensures c.stage_samples_for-end.ensures _ c.play_click-c.ensures
