@@ -10,7 +10,7 @@ use lib.Dec.{leb, ltb, eqb}
 use lib.Ieee.{Float}
 use lib.ListN.{length}
 use borrow.Author.Tests.{ltb-false, eqb-true, eqb-false}
-use Rattle.std.specs.Prelude.{Result, Ok, Err, Option, None}
+use Rattle.std.specs.Prelude.{Result, Ok, Err, Option, Some, None}
 use Rattle.refusal.specs.declared.Refusal.{Refusal}
 use Rattle.refusal.specs.Refusal as refusal
 use Rattle.refusal.specs.Refusal.{answer_number}
@@ -39,7 +39,6 @@ use Rattle.sender.specs.declared.Sending.{Sending}
 use Rattle.sender.specs.Sender.{queued, emptied}
 use Rattle.sender.specs.Wave as wave
 use Rattle.at.specs.declared.AtProcessor.{AtProcessor}
-use Rattle.std.specs.Prelude.{Option, Some, None}
 use Rattle.at.specs.declared.Control.{Control}
 use Rattle.at.specs.declared.Control.TheVariants.{Dial, Answer, Hangup}
 use Rattle.at.specs.Processor as processor
