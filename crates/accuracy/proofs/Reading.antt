@@ -20,7 +20,8 @@ use Rattle.overture.specs.Iteration.{fresh, after, samples, shown_after}
 use Rattle.session.specs.declared.SessionState.TheVariants.{Dialling, Connected}
 use Rattle.set.specs.declared.Set.{Set}
 use Rattle.set.specs.declared.Filled.{Filled}
-use Rattle.set.specs.Refusals.{accepted}
+use Rattle.std.specs.Prelude.{Result, IsOk}
+use Rattle.refusal.specs.declared.Refusal.{Refusal}
 use Rattle.set.specs.Set.{fill, buffer}
 use Rattle.accuracy.specs.Taylor.{units, factorial, term, added, taken, divisor}
 use Rattle.accuracy.specs.Level.{InLevel, AllInLevel}
@@ -83,7 +84,7 @@ module _ (κs : Lfts 2) (digits : Bor (List ℕ)) (rate : ℕ) (out : MutBor (Li
   pub overture-in-level : (k : ℕ) → AllInLevel (samples k (fresh digits.now rate) digits.now rate)
   overture-in-level = d.1.1.1.1
 
-module _ (s : Set) (κs : Lfts 1) (out : MutBor (List Float)) (left : List Float) (answer : Filled)
+module _ (s : Set) (κs : Lfts 1) (out : MutBor (List Float)) (left : List Float) (answer : Result Filled Refusal)
     (d : process-out.Learnt κs (s, (out, tt)) answer (s, (at_last out left, tt))) where
   pub is-the-fill : answer ≡ fill s (length out.now)
   is-the-fill = d.0
@@ -91,10 +92,10 @@ module _ (s : Set) (κs : Lfts 1) (out : MutBor (List Float)) (left : List Float
   pub is-the-buffer : left ≡ buffer s out.now
   is-the-buffer = d.1.0
 
-  pub filled-in-level : s.session.state ≡ Dialling → accepted answer.refusal ≡ true → AllInLevel left
+  pub filled-in-level : s.session.state ≡ Dialling → IsOk answer → AllInLevel left
   filled-in-level = d.1.1.0
 
-  pub sent-in-level : s.session.state ≡ Connected → accepted answer.refusal ≡ true → AllInLevel left
+  pub sent-in-level : s.session.state ≡ Connected → IsOk answer → AllInLevel left
   sent-in-level = d.1.1.1
 
 -- "every sample": whichever of them

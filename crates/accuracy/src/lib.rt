@@ -1,7 +1,7 @@
 // 02, E9, "How true the tone is": what it says of S, of the overture's samples and of a set's fill, at the functions in use.
 #![tactic(auto)]
 
-ghost use Rattle.std.specs.Prelude.{◌≡◌, true, ℕ, T, length};
+ghost use Rattle.std.specs.Prelude.{◌≡◌, ℕ, T, length, IsOk};
 ghost use Rattle.std.specs.Float.Ieee.{le};
 ghost use Rattle.math.specs.Float.{zero, quarter_turn, plus, times};
 ghost use Rattle.math.specs.Sine.{sine};
@@ -9,11 +9,11 @@ ghost use Rattle.math.specs.Narrow.{narrowed};
 ghost use Rattle.tones.specs.Samples.{tone_gain};
 ghost use Rattle.overture.specs.Iteration.{fresh, after, samples, shown_after};
 ghost use Rattle.session.specs.declared.SessionState.TheVariants.{Dialling, Connected};
-ghost use Rattle.set.specs.Refusals.{accepted};
 ghost use Rattle.set.specs.Set.{fill, buffer};
 ghost use Rattle.accuracy.specs.Taylor.{NearSine};
 ghost use Rattle.accuracy.specs.Level.{InLevel, AllInLevel};
 
+use refusal::Refusal;
 use set::{Filled, Set};
 use stage::Stage;
 
@@ -50,11 +50,11 @@ pub fn read_fresh(digits: &[u8], rate: u32, out: &mut [f32]) -> overture::Filled
 
 // A set's fill. In Dialling and in Connected, unless it is declined, each sample that it leaves lies between -0.92 and 0.92, whatever else
 // the set holds.
-pub fn process_out(set: Set, out: &mut [f32]) -> Filled
+pub fn process_out(set: Set, out: &mut [f32]) -> Result<Filled, Refusal>
     ensures value { result ≡ fill set (length out.old) }
     ensures out_after { out.new ≡ buffer set out.old }
-    ensures all_in_level { set.session.state ≡ Dialling → accepted result.refusal ≡ true → AllInLevel out.new }
-    ensures all_in_level_2 { set.session.state ≡ Connected → accepted result.refusal ≡ true → AllInLevel out.new }
+    ensures all_in_level { set.session.state ≡ Dialling → IsOk result → AllInLevel out.new }
+    ensures all_in_level_2 { set.session.state ≡ Connected → IsOk result → AllInLevel out.new }
 {
     set.process_out(out)
 }

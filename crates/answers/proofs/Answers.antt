@@ -12,12 +12,9 @@ use Rattle.nco.specs.Lent.{lent_sample, lent_nco}
 use Rattle.set.specs.declared.Set.{Set}
 use Rattle.set.proofs.Answers.{new-answers, typed-answers, typed-all-answers, advance-time-answers, force-data-mode-answers, filled-answers, queue-byte-answers, ring-number-answers}
 use Rattle.cue.proofs.Answers.{cued-answers}
-use Rattle.set.specs.declared.Refusal.{Refusal}
-use Rattle.set.specs.declared.Refusal.TheVariants.{Accepted, Rate, Outbox, Length, Unsound, StringLength, StringRoom, QueueFull}
-use Rattle.set.specs.Refusals.{refusal_number}
-use Rattle.cue.specs.declared.Refusal as cue_refusal
-use Rattle.cue.specs.declared.Refusal.TheVariants as cue
-use Rattle.cue.specs.Cue.{cue_refusal_number}
+use Rattle.refusal.specs.declared.Refusal.{Refusal}
+use Rattle.refusal.specs.declared.Refusal.TheVariants.{Rate, Outbox, Length, Unsound, Position, StringLength, StringRoom, Digits, BadFrame, QueueFull, TooLong, Start, Address}
+use Rattle.refusal.specs.Refusal.{number_of}
 use Rattle.answers.specs.Answers.{Answers}
 
 -- a text of which nothing is written leaves the buffer
@@ -42,20 +39,20 @@ writer-answers code s12 out left n d =
 abbrev pub Never : ℕ → Type 0
 Never n = (n ≡ 4 → ⊥) × (n ≡ 5 → ⊥)
 
-pub never : (refusal : Refusal) → Never (refusal_number refusal)
-never Accepted = (λ e. omega arith, λ e. omega arith)
+pub never : (refusal : Refusal) → Never (number_of refusal)
 never Rate = (λ e. omega arith, λ e. omega arith)
 never Outbox = (λ e. omega arith, λ e. omega arith)
 never Length = (λ e. omega arith, λ e. omega arith)
 never Unsound = (λ e. omega arith, λ e. omega arith)
+never Position = (λ e. omega arith, λ e. omega arith)
 never StringLength = (λ e. omega arith, λ e. omega arith)
 never StringRoom = (λ e. omega arith, λ e. omega arith)
+never Digits = (λ e. omega arith, λ e. omega arith)
+never BadFrame = (λ e. omega arith, λ e. omega arith)
 never QueueFull = (λ e. omega arith, λ e. omega arith)
-
-pub cue-never : (refusal : cue_refusal.Refusal) → Never (cue_refusal_number refusal)
-cue-never cue.Accepted = (λ e. omega arith, λ e. omega arith)
-cue-never cue.Unsound = (λ e. omega arith, λ e. omega arith)
-cue-never cue.Position = (λ e. omega arith, λ e. omega arith)
+never TooLong = (λ e. omega arith, λ e. omega arith)
+never Start = (λ e. omega arith, λ e. omega arith)
+never Address = (λ e. omega arith, λ e. omega arith)
 
 pub answers : (s : Set) → Answers s
 unfolding lent_sample lent_nco
@@ -70,8 +67,8 @@ answers s =
       queuing = queue-byte-answers s;
       ring = ring-number-answers s;
       cue = cued-answers s;
-      never4 = (λ refusal. (never refusal).0, λ refusal. (cue-never refusal).0);
-      never5 = (λ refusal. (never refusal).1, λ refusal. (cue-never refusal).1);
+      never4 = λ refusal. (never refusal).0;
+      never5 = λ refusal. (never refusal).1;
       writer = writer-answers;
       oscillator = λ nco outside. (rw outside, rw outside);
     }

@@ -17,7 +17,9 @@ fn dialled(rate: u32, digits: &[u8]) -> Set {
 fn typed(mut set: Set, bytes: &[u8]) -> Set {
     let mut outbox = [0; 4];
     for byte in bytes {
-        set = set.feed(*byte, false, &mut outbox).set;
+        set = set
+            .feed(*byte, false, &mut outbox)
+            .map_or(set, |typed| typed.set);
     }
     set
 }
@@ -26,7 +28,7 @@ fn typed(mut set: Set, bytes: &[u8]) -> Set {
 fn filled(mut set: Set, part: usize, out: &mut [f32]) -> Set {
     if part > 0 {
         for samples in out.chunks_mut(part) {
-            set = set.process_out(samples).set;
+            set = set.process_out(samples).map_or(set, |filled| filled.set);
         }
     }
     set
@@ -37,11 +39,15 @@ fn played(rate: u32, digits: &[u8], skip: usize) -> Set {
     let mut set = dialled(rate, digits);
     let mut scratch = [0.0; 4096];
     for _ in 0..skip / 4096 {
-        set = set.process_out(&mut scratch).set;
+        set = set
+            .process_out(&mut scratch)
+            .map_or(set, |filled| filled.set);
     }
     // an empty fill would change the stage shown
     if skip % 4096 > 0 {
-        set = set.process_out(&mut scratch[..skip % 4096]).set;
+        set = set
+            .process_out(&mut scratch[..skip % 4096])
+            .map_or(set, |filled| filled.set);
     }
     set
 }
@@ -67,7 +73,7 @@ pub extern "C" fn bench_fills(
 // The set with all 256 places of its queue taken.
 fn queued(mut set: Set) -> Set {
     for _ in 0..256 {
-        set = set.queue_byte(b'U').set;
+        set = set.queue_byte(b'U').unwrap_or(set);
     }
     set
 }
@@ -95,7 +101,7 @@ pub extern "C" fn bench_sent(
 pub extern "C" fn bench_empty_fills(rate: u32, digits: &[u8], skip: usize, turns: u64) -> u32 {
     let mut set = played(rate, digits, skip);
     for _ in 0..turns {
-        set = set.process_out(&mut []).set;
+        set = set.process_out(&mut []).map_or(set, |filled| filled.set);
     }
     set.m()
 }
@@ -107,9 +113,10 @@ pub extern "C" fn bench_bytes(rate: u32, digits: &[u8], skip: usize, turns: u64)
     let mut outbox = [0; 4];
     let mut sent = 0;
     for _ in 0..turns {
-        let typed = set.feed(b'A', true, &mut outbox);
-        set = typed.set;
-        sent = typed.sent;
+        if let Ok(typed) = set.feed(b'A', true, &mut outbox) {
+            set = typed.set;
+            sent = typed.sent;
+        }
     }
     sent as u64
 }
@@ -122,9 +129,10 @@ pub extern "C" fn bench_strings(rate: u32, digits: &[u8], skip: usize, turns: u6
     let mut codes = [0; 33];
     let mut sent = 0;
     for _ in 0..turns {
-        let typed = set.feed_all(b"ATDT5551234", true, &mut outbox, &mut codes);
-        set = typed.set;
-        sent = typed.sent;
+        if let Ok(typed) = set.feed_all(b"ATDT5551234", true, &mut outbox, &mut codes) {
+            set = typed.set;
+            sent = typed.sent;
+        }
     }
     sent as u64
 }

@@ -35,8 +35,8 @@ fn typed(set: Set, bytes: &[u8]) -> Set {
 
 fn feed(set: Set, byte: u8) -> Set {
     let mut outbox = [0u8; 4];
-    let answer = set.feed(byte, false, &mut outbox);
-    answer.set
+    set.feed(byte, false, &mut outbox)
+        .map_or(set, |typed| typed.set)
 }
 
 pub fn is_dialling(set: Set) -> bool {

@@ -34,12 +34,13 @@ fn find_in(set: Set, n: usize, samples: &mut [f32], firsts: &mut [u32]) -> Set {
     if some > samples.len() {
         return set;
     }
-    let filled = set.process_out(&mut samples[..n]);
-    let next = filled.set;
+    let next = set
+        .process_out(&mut samples[..n])
+        .map_or(set, |filled| filled.set);
     note(
         set,
-        edges::icon(set).icon,
-        edges::icon(next).icon,
+        edges::icon(set).unwrap_or(0),
+        edges::icon(next).unwrap_or(0),
         &mut samples[..some],
         firsts,
     );
@@ -50,8 +51,8 @@ fn find_in(set: Set, n: usize, samples: &mut [f32], firsts: &mut [u32]) -> Set {
 fn note(set: Set, before: u8, after: u8, samples: &mut [f32], firsts: &mut [u32]) {
     for passed in before..after {
         let stage = passed + 1;
-        let found = edges::first_sample(set, stage, samples);
-        let first = set.m().wrapping_add(play::at_most(found.sample, u32::MAX));
+        let found = edges::first_sample(set, stage, samples).unwrap_or(0);
+        let first = set.m().wrapping_add(play::at_most(found, u32::MAX));
         put(firsts, stage as usize, first);
     }
 }

@@ -91,8 +91,11 @@ fn put_digits(page: &mut Table, dialled: Set) {
 // The first `len` keys.
 fn put_keys(page: &mut Table, dialled: Set, keys: &[u8], len: usize) {
     for (i, digit) in keys.iter().take(len).enumerate() {
-        let cued = cue::cue(dialled, play::at_most(i, u32::MAX));
-        put_key(page, *digit, cued.key, cued.sample, dialled.rate());
+        let (key, sample) = match cue::cue(dialled, play::at_most(i, u32::MAX)) {
+            Ok(cued) => (cued.key, cued.sample),
+            Err(_) => (None, 0),
+        };
+        put_key(page, *digit, key, sample, dialled.rate());
     }
 }
 

@@ -58,8 +58,7 @@ fn mark_left(talk: Talk, n: usize) -> u32 {
 }
 
 fn queue_byte(set: Set, byte: u8) -> Set {
-    let answer = set.queue_byte(byte);
-    answer.set
+    set.queue_byte(byte).unwrap_or(set)
 }
 
 // The samples of the fills from the one behind `fill` others to the one in which the text's last frame ends.
@@ -90,8 +89,7 @@ pub fn fill(talk: Talk, message: &[u8], samples: &mut [f32]) -> Talk {
     let t = queue(talk, message);
     let set = t.set;
     let mark = mark_left(t, samples.len());
-    let filled = set.process_out(samples);
-    let next = filled.set;
+    let next = set.process_out(samples).map_or(set, |filled| filled.set);
     Talk {
         set: next,
         queued: t.queued,

@@ -21,7 +21,11 @@ fn one(output: &impl Print, digits: &[u8], rate: u32) {
     let refusal = plan::plan_refusal(digits, rate);
     tried::put_number(&mut page, b"plan of ", digits.len() as u64);
     tried::put_number(&mut page, b" at ", rate as u64);
-    tried::put_number(&mut page, b" refusal ", refusal::answer_number(&refusal) as u64);
+    tried::put_number(
+        &mut page,
+        b" refusal ",
+        refusal::answer_number(&refusal) as u64,
+    );
     page.put(b" stages");
     put_stage(&mut page, digits, rate, 0);
     put_stage(&mut page, digits, rate, 1);

@@ -2,6 +2,8 @@
 ghost use Rattle.std.specs.Prelude.{◌≤◌};
 
 use keys::Key;
+use refusal::Refusal;
+use reply::Reply;
 use set::Set;
 use text::Page;
 
@@ -63,9 +65,8 @@ pub fn made(output: &impl Print, rate: u32) {
     let mut page = Entry::new();
     let made = Set::new(rate);
     let set = made.set;
-    let refusal = made.refusal;
     put_number(&mut page, b"rate ", rate as u64);
-    put_number(&mut page, b" made ", refusal.number() as u64);
+    put_answer(&mut page, b" made ", &made.checked);
     put_number(&mut page, b" at ", set.rate() as u64);
     end(output, &mut page);
 }
@@ -93,8 +94,7 @@ pub(crate) fn string(output: &impl Print, name: &[u8], set: Set, string: &[u8], 
 // A fill of two samples, and what the sender and the bytes that wait have become.
 pub fn sender(output: &impl Print, name: &[u8], set: Set) {
     let mut page = Entry::new();
-    let answer = set.queue_byte(b'Q');
-    let queued = answer.set;
+    let queued = set.queue_byte(b'Q').unwrap_or(set);
     page.put(name);
     put_sending(&mut page, set);
     page.put(b", Q queued:");
@@ -104,8 +104,9 @@ pub fn sender(output: &impl Print, name: &[u8], set: Set) {
 
 fn put_sending(page: &mut Entry, set: Set) {
     let mut samples = [1.23f32; 2];
-    let answer = set.process_out(&mut samples);
-    let after = answer.set;
+    let after = set
+        .process_out(&mut samples)
+        .map_or(set, |filled| filled.set);
     put_bits(page, samples::bits(samples[0]) as u64, 8);
     put_bits(page, samples::bits(samples[1]) as u64, 8);
     put_number(page, b" m ", after.m() as u64);
@@ -130,10 +131,9 @@ pub fn fill_long(output: &impl Print, set: Set) {
     let mut samples = [1.23f32; 65537];
     let before = samples::fnv::hash_samples(samples::fnv::OFFSET, &samples);
     let answer = set.process_out(&mut samples);
-    let refusal = answer.refusal;
-    let key = answer.key;
+    let key = answer.map_or(None, |filled| filled.key);
     let after = samples::fnv::hash_samples(samples::fnv::OFFSET, &samples);
-    put_number(&mut page, b"fill of 65537 ", refusal.number() as u64);
+    put_answer(&mut page, b"fill of 65537 ", &answer);
     put_bits(&mut page, before, 16);
     put_bits(&mut page, after, 16);
     put_key(&mut page, key);
@@ -144,14 +144,13 @@ fn put_typed(page: &mut Entry, set: Set, byte: u8, n: usize)
     requires { n ≤ 8 }
 {
     let mut outbox = [b'.'; 8];
-    let from: usize = 0;
-    let answer = set.feed(byte, false, &mut outbox[from..n]);
-    let refusal = answer.refusal;
-    let reply = answer.reply;
-    put_number(page, b" typed ", refusal.number() as u64);
+    let answer = set.feed(byte, false, &mut outbox[..n]);
+    let reply = answer.map_or(Reply::None, |typed| typed.reply);
+    let sent = answer.map_or(0, |typed| typed.sent);
+    put_answer(page, b" typed ", &answer);
     put_number(page, b" codes ", reply.first() as u64);
     put_number(page, b" ", reply.second() as u64);
-    put_number(page, b" sent ", answer.sent as u64);
+    put_number(page, b" sent ", sent as u64);
     put_outbox(page, &outbox)
 }
 
@@ -161,11 +160,10 @@ fn put_string(page: &mut Entry, set: Set, string: &[u8], n: usize, m: usize)
 {
     let mut outbox = [b'.'; 16];
     let mut codes = [b'.'; 12];
-    let from: usize = 0;
-    let answer = set.feed_all(string, false, &mut outbox[from..n], &mut codes[from..m]);
-    let refusal = answer.refusal;
-    put_number(page, b" string ", refusal.number() as u64);
-    put_number(page, b" sent ", answer.sent as u64);
+    let answer = set.feed_all(string, false, &mut outbox[..n], &mut codes[..m]);
+    let sent = answer.map_or(0, |typed| typed.sent);
+    put_answer(page, b" string ", &answer);
+    put_number(page, b" sent ", sent as u64);
     put_sends(page, &outbox);
     put_codes(page, codes)
 }
@@ -190,22 +188,18 @@ fn put_four(page: &mut Entry, a: u8, b: u8, c: u8, d: u8) {
 
 fn put_time(page: &mut Entry, set: Set) {
     let answer = set.advance_time(1, false);
-    let refusal = answer.refusal;
-    put_number(page, b" time ", refusal.number() as u64)
+    put_answer(page, b" time ", &answer)
 }
 
 fn put_forced(page: &mut Entry, set: Set) {
     let answer = set.force_data_mode();
-    let refusal = answer.refusal;
-    put_number(page, b" forced ", refusal.number() as u64)
+    put_answer(page, b" forced ", &answer)
 }
 
 fn put_queued(page: &mut Entry, set: Set) {
     let answer = set.queue_byte(b'Q');
-    let refusal = answer.refusal;
-    let after = answer.set;
-    put_number(page, b" queued ", refusal.number() as u64);
-    put_waiting(page, after)
+    put_answer(page, b" queued ", &answer);
+    put_waiting(page, answer.unwrap_or(set))
 }
 
 // How many bytes wait, and what the first two places and the last hold.
@@ -222,9 +216,8 @@ fn put_waiting(page: &mut Entry, set: Set) {
 fn put_filled(page: &mut Entry, set: Set) {
     let mut samples = [1.23f32; 2];
     let answer = set.process_out(&mut samples);
-    let refusal = answer.refusal;
-    let key = answer.key;
-    put_number(page, b" fill ", refusal.number() as u64);
+    let key = answer.map_or(None, |filled| filled.key);
+    put_answer(page, b" fill ", &answer);
     put_bits(page, samples::bits(samples[0]) as u64, 8);
     put_bits(page, samples::bits(samples[1]) as u64, 8);
     put_key(page, key)
@@ -232,22 +225,22 @@ fn put_filled(page: &mut Entry, set: Set) {
 
 // The readers that work their answer out.
 fn put_readers(page: &mut Entry, set: Set) {
-    let rung = set.ring_number();
-    let ring_refusal = rung.refusal;
-    let shown = edges::icon(set);
-    let icon_refusal = shown.refusal;
-    put_number(page, b" ring ", ring_refusal.number() as u64);
-    put_number(page, b" ", rung.ring as u64);
-    put_number(page, b" icon ", icon_refusal.number() as u64);
-    put_number(page, b" ", shown.icon as u64)
+    put_worked_out(page, b" ring ", set.ring_number());
+    put_worked_out(page, b" icon ", edges::icon(set));
+}
+
+// 0 where it is declined.
+fn put_worked_out(page: &mut Entry, label: &[u8], answer: Result<u8, Refusal>) {
+    put_answer(page, label, &answer);
+    put_number(page, b" ", wide(answer.unwrap_or(0)));
 }
 
 fn put_cue(page: &mut Entry, set: Set, position: u32) {
     let cued = cue::cue(set, position);
-    let refusal = cued.refusal;
-    let key = cued.key;
-    put_number(page, b" cue ", refusal.number() as u64);
-    put_number(page, b" ", cued.sample);
+    let key = cued.map_or(None, |cued| cued.key);
+    let sample = cued.map_or(0, |cued| cued.sample);
+    put_answer(page, b" cue ", &cued);
+    put_number(page, b" ", sample);
     put_key(page, key)
 }
 
@@ -262,9 +255,14 @@ fn put_key(page: &mut Entry, key: Option<Key>) {
     }
 }
 
+// The refusal's number, or 0.
+fn put_answer<T>(page: &mut Entry, label: &[u8], answer: &Result<T, Refusal>) {
+    put_number(page, label, wide(refusal::answer_number(answer)));
+}
+
 pub fn put_number(page: &mut Entry, label: &[u8], number: u64) {
     page.put(label);
-    page.put_decimal(number)
+    page.put_decimal(number);
 }
 
 fn put_buffer(page: &mut Entry, buffer: &[u8; 28]) {

@@ -5,13 +5,13 @@ use mathlib.Core.Bool.{false}
 use mathlib.Core.List.{List, [], ◌∷◌}
 use mathlib.Core.Logic.{⊎_elim}
 use lib.ListN.{length}
+use Rattle.std.specs.Prelude.{Result}
+use Rattle.refusal.specs.declared.Refusal.{Refusal}
 use Rattle.at.specs.Processor.{fresh_s12}
 use Rattle.set.specs.declared.Set.{Set}
 use Rattle.set.specs.declared.Typed.{Typed}
 use Rattle.set.specs.declared.Lapsed.{Lapsed}
-use Rattle.set.specs.declared.Forced.{Forced}
 use Rattle.set.specs.declared.Filled.{Filled}
-use Rattle.set.specs.declared.Queued.{Queued}
 use Rattle.set.specs.Set as set
 use Rattle.set.specs.Before.{typed_before}
 use Rattle.set.specs.Event.{Event, lapsed_event, forced_event, queued_event}
@@ -28,27 +28,27 @@ one s f e (typed byte carrier was left answer promised) none =
     let before : answer ≡ typed_before s byte carrier (length was) = told ∙ typed-as-before s f byte carrier (length was) none in
     record {
       answer = rw (← before, ← outbox-as-before s f byte was, ← wrote);
-      s12 = ap (λ (a : Typed). set.s12_of a.set) told ∙ ⊎_elim (λ same. same ∙ f) (λ reset. reset) (typed-keeps-s12 s byte carrier (length was) none);
+      s12 = ap (λ (a : Result Typed Refusal). set.s12_of (set.set_typed s a)) told ∙ ⊎_elim (λ same. same ∙ f) (λ reset. reset) (typed-keeps-s12 s byte carrier (length was) none);
     }
 one s f e (lapsed ns carrier answer promised) none =
     let told : answer ≡ set.lapsed s ns carrier = promised in
     record {
-      answer = ap (lapsed_event ns carrier) (told ∙ lapsed-as-before s f ns carrier);
-      s12 = ap (λ (a : Lapsed). set.s12_of a.set) told ∙ lapsed-keeps-s12 s ns carrier ∙ f;
+      answer = ap (lapsed_event s ns carrier) (told ∙ lapsed-as-before s f ns carrier);
+      s12 = ap (λ (a : Result Lapsed Refusal). set.s12_of (set.set_lapsed s a)) told ∙ lapsed-keeps-s12 s ns carrier ∙ f;
     }
 one s f e (forced answer promised) none =
     let told : answer ≡ set.forced s = promised in
-    record { answer = ap forced_event told; s12 = ap (λ (a : Forced). set.s12_of a.set) told ∙ forced-keeps-s12 s ∙ f }
+    record { answer = ap (forced_event s) told; s12 = ap (λ (a : Result Set Refusal). set.s12_of (set.set_left s a)) told ∙ forced-keeps-s12 s ∙ f }
 one s f e (filled was left answer promised) none =
     let told : answer ≡ set.fill s (length was) = promised.0 in
     let wrote : left ≡ set.buffer s was = promised.1 in
     record {
       answer = rw (← told, ← wrote);
-      s12 = ap (λ (a : Filled). set.s12_of a.set) told ∙ fill-keeps-s12 s (length was) ∙ f;
+      s12 = ap (λ (a : Result Filled Refusal). set.s12_of (set.set_filled s a)) told ∙ fill-keeps-s12 s (length was) ∙ f;
     }
 one s f e (queued byte answer promised) none =
     let told : answer ≡ set.byte_queued s byte = promised in
-    record { answer = ap (queued_event byte) told; s12 = ap (λ (a : Queued). set.s12_of a.set) told ∙ queued-keeps-s12 s byte ∙ f }
+    record { answer = ap (queued_event s byte) told; s12 = ap (λ (a : Result Set Refusal). set.s12_of (set.set_left s a)) told ∙ queued-keeps-s12 s byte ∙ f }
 
 all : (s : Set) → set.s12_of s ≡ fresh_s12 → (es : List Event) → Trace s es → NoS12Line s es → AllAsBefore s es
 all s f [] t none = tt

@@ -17,7 +17,7 @@ use Rattle.session.specs.declared.SessionState.{SessionState}
 use Rattle.session.specs.declared.SessionState.TheVariants.{Idle, Dialling, Answering, Connected}
 use Rattle.session.specs.Session.{state_number, idle}
 use Rattle.set.specs.declared.Set.{Set}
-use Rattle.set.specs.Refusals.{refusal_number}
+use Rattle.refusal.specs.Refusal.{answer_number}
 use Rattle.set.specs.Sound.{sound}
 use Rattle.set.specs.Set as set
 use Rattle.set.specs.Book.{Book, blank, overture, length_of, entry_of, entered}
@@ -59,7 +59,7 @@ module _ (r : ℕ) (ok : rate_ok r ≡ true) where
       let f = q.effect.follows in (
         record {
           number = q.effect.number;
-          sound = λ (six : refusal_number e.refusal ≡ 6). never-6 r ok k (entry_of k e.call) q.effect.limits (sym q.effect.number ∙ six);
+          sound = λ (six : answer_number e.refusal ≡ 6). never-6 r ok k (entry_of k e.call) q.effect.limits (sym q.effect.number ∙ six);
           unchanged = q.unchanged;
           reports = record { count = f.count; state = f.state; stage = f.shown };
           key = q.effect.key;

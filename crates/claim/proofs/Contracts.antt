@@ -1,6 +1,8 @@
 -- The claim over the calls' own contracts: `Asked` and `Learnt` are made by the toolchain from a function's `requires` and `ensures`, so that a
 -- contract that says less is refused here. A list of calls that did what those promise is one of Trace.antt and Strings.antt. Assumes nothing.
 use Rattle.std.proofs.Common.{ℕ, Bool, List, [], ◌∷◌, Float}
+use Rattle.std.specs.Prelude.{Result}
+use Rattle.refusal.specs.declared.Refusal.{Refusal}
 use contract.Lifetimes.{Lfts}
 use denote.Bor.{Bor}
 use denote.MutBor.{MutBor}
@@ -9,9 +11,7 @@ use Rattle.set.specs.declared.Set.{Set}
 use Rattle.set.specs.declared.Typed.{Typed}
 use Rattle.set.specs.declared.TypedAll.{TypedAll}
 use Rattle.set.specs.declared.Lapsed.{Lapsed}
-use Rattle.set.specs.declared.Forced.{Forced}
 use Rattle.set.specs.declared.Filled.{Filled}
-use Rattle.set.specs.declared.Queued.{Queued}
 use Rattle.set.specs.Set as set
 use Rattle.set.specs.Event.{Event, typed_event, lapsed_event, forced_event, filled_event, queued_event, string_event}
 use Rattle.set.proofs.Set.feed.Reads as feed
@@ -35,35 +35,35 @@ use Rattle.claim.proofs.WorkedSent as sent
 
 -- the event is that of a call on the set s, which was allowed, and did what its contract promises
 pub data Did (s : Set) : Event → Type 0 where
-  typed : (byte : ℕ) (carrier : Bool) (κs : Lfts 1) (out : MutBor (List ℕ)) (left : List ℕ) (answer : Typed)
+  typed : (byte : ℕ) (carrier : Bool) (κs : Lfts 1) (out : MutBor (List ℕ)) (left : List ℕ) (answer : Result Typed Refusal)
       → feed.Asked κs (s, (byte, (carrier, (out, tt))))
       → feed.Learnt κs (s, (byte, (carrier, (out, tt)))) answer (s, (byte, (carrier, (at_last out left, tt))))
-      → Did s (typed_event byte carrier out.now left answer)
-  lapsed : (ns : ℕ) (carrier : Bool) (answer : Lapsed)
+      → Did s (typed_event s byte carrier out.now left answer)
+  lapsed : (ns : ℕ) (carrier : Bool) (answer : Result Lapsed Refusal)
       → advance-time.Asked tt (s, (ns, (carrier, tt)))
       → advance-time.Learnt tt (s, (ns, (carrier, tt))) answer (s, (ns, (carrier, tt)))
-      → Did s (lapsed_event ns carrier answer)
-  forced : (answer : Forced)
+      → Did s (lapsed_event s ns carrier answer)
+  forced : (answer : Result Set Refusal)
       → force-data-mode.Asked tt (s, tt)
       → force-data-mode.Learnt tt (s, tt) answer (s, tt)
-      → Did s (forced_event answer)
-  filled : (κs : Lfts 1) (out : MutBor (List Float)) (left : List Float) (answer : Filled)
+      → Did s (forced_event s answer)
+  filled : (κs : Lfts 1) (out : MutBor (List Float)) (left : List Float) (answer : Result Filled Refusal)
       → process-out.Asked κs (s, (out, tt))
       → process-out.Learnt κs (s, (out, tt)) answer (s, (at_last out left, tt))
-      → Did s (filled_event out.now left answer)
-  queued : (byte : ℕ) (answer : Queued)
+      → Did s (filled_event s out.now left answer)
+  queued : (byte : ℕ) (answer : Result Set Refusal)
       → queue-byte.Asked tt (s, (byte, tt))
       → queue-byte.Learnt tt (s, (byte, tt)) answer (s, (byte, tt))
-      → Did s (queued_event byte answer)
+      → Did s (queued_event s byte answer)
 
 -- the step is a call on the set s, which was allowed, and did what its contract promises
 pub data Happened (s : Set) : Step → Type 0 where
   called : (e : Event) → Did s e → Happened s (single e)
-  typed_all : (κs : Lfts 3) (bytes : Bor (List ℕ)) (carrier : Bool) (out codes : MutBor (List ℕ)) (left codes_left : List ℕ) (answer : TypedAll)
+  typed_all : (κs : Lfts 3) (bytes : Bor (List ℕ)) (carrier : Bool) (out codes : MutBor (List ℕ)) (left codes_left : List ℕ) (answer : Result TypedAll Refusal)
       → feed-all.Asked κs (s, (bytes, (carrier, (out, (codes, tt)))))
       → feed-all.Learnt κs (s, (bytes, (carrier, (out, (codes, tt))))) answer
       (s, (bytes, (carrier, (at_last out left, (at_last codes codes_left, tt)))))
-      → Happened s (string (string_event bytes.now carrier out.now left codes.now codes_left answer))
+      → Happened s (string (string_event s bytes.now carrier out.now left codes.now codes_left answer))
 
 -- each is made on the set that the one before returned
 abbrev pub History : Set → List Step → Type 0

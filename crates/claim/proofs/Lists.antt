@@ -43,22 +43,22 @@ pub makes : Lender → (s : Set) (call : Call) → Made s call
 makes l s (typing byte carrier room) =
     let was = l.bytes room in
     record {
-      event = typed_event byte carrier was (set.outbox s byte was) (set.typed s byte carrier (length was));
+      event = typed_event s byte carrier was (set.outbox s byte was) (set.typed s byte carrier (length was));
       did = typed byte carrier was (set.outbox s byte was) (set.typed s byte carrier (length was)) (refl, refl);
       asked = ap (typing byte carrier) (l.all-bytes room);
     }
 makes l s (time ns carrier) =
-    record { event = lapsed_event ns carrier (set.lapsed s ns carrier); did = lapsed ns carrier (set.lapsed s ns carrier) refl; asked = refl }
-makes l s forcing = record { event = forced_event (set.forced s); did = forced (set.forced s) refl; asked = refl }
+    record { event = lapsed_event s ns carrier (set.lapsed s ns carrier); did = lapsed ns carrier (set.lapsed s ns carrier) refl; asked = refl }
+makes l s forcing = record { event = forced_event s (set.forced s); did = forced (set.forced s) refl; asked = refl }
 makes l s (filling b) =
     let was = l.samples b in
     record {
-      event = filled_event was (set.buffer s was) (set.fill s (length was));
+      event = filled_event s was (set.buffer s was) (set.fill s (length was));
       did = filled was (set.buffer s was) (set.fill s (length was)) (refl, refl);
       asked = ap filling (l.all-samples b);
     }
 makes l s (queuing byte) =
-    record { event = queued_event byte (set.byte_queued s byte); did = queued byte (set.byte_queued s byte) refl; asked = refl }
+    record { event = queued_event s byte (set.byte_queued s byte); did = queued byte (set.byte_queued s byte) refl; asked = refl }
 
 -- ---- and of a list of them, strings among them
 pub data Act : Type 0 where
@@ -89,7 +89,7 @@ acts-on s (string bytes carrier outbox codes) =
     let left = outbox_all s bytes carrier outbox (length codes) in
     let codes_left = codes_all s bytes carrier (length outbox) codes in
     record {
-      step = step.string (string_event bytes carrier outbox left codes codes_left answer);
+      step = step.string (string_event s bytes carrier outbox left codes codes_left answer);
       happened = step.typed_all bytes carrier outbox left codes codes_left answer (refl, (refl, refl));
       asked = refl;
     }

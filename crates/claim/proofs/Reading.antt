@@ -23,11 +23,10 @@ use Rattle.set.specs.declared.Set.{Set}
 use Rattle.set.specs.declared.Made.{Made}
 use Rattle.set.specs.declared.Typed.{Typed}
 use Rattle.set.specs.declared.Lapsed.{Lapsed}
-use Rattle.set.specs.declared.Forced.{Forced}
 use Rattle.set.specs.declared.Filled.{Filled}
-use Rattle.set.specs.declared.Queued.{Queued}
-use Rattle.set.specs.declared.Refusal.{Refusal}
-use Rattle.set.specs.Refusals.{refusal_number}
+use Rattle.std.specs.Prelude.{Result}
+use Rattle.refusal.specs.declared.Refusal.{Refusal}
+use Rattle.refusal.specs.Refusal.{answer_number}
 use Rattle.set.specs.Set.{s12_of, made}
 use Rattle.set.specs.Before.{typed_before, outbox_before, lapsed_before}
 use Rattle.set.specs.String.{at_front}
@@ -55,13 +54,13 @@ at_call s [] e later (as_before, rest) = as_before
 at_call s (x ∷ es) e later (as_before, rest) = at_call x.set es e later rest
 
 -- a list holds no S12 line unless a typed byte ends one
-pub typing-holds-none : (s : Set) (byte : ℕ) (carrier : Bool) (was left : List ℕ) (a : Typed) → ends_s12_line s.processor byte ≡ false
-    → NoS12Line s (typed_event byte carrier was left a ∷ [])
-typing-holds-none s byte carrier was left a none = (none, tt)
+pub typing-holds-none : (s t : Set) (byte : ℕ) (carrier : Bool) (was left : List ℕ) (a : Result Typed Refusal) → ends_s12_line s.processor byte ≡ false
+    → NoS12Line s (typed_event t byte carrier was left a ∷ [])
+typing-holds-none s t byte carrier was left a none = (none, tt)
 
-pub others-hold-none : (s : Set) (ns : ℕ) (carrier : Bool) (a : Lapsed) (f : Forced) (was left : List Float) (b : Filled) (byte : ℕ) (q : Queued)
-    → NoS12Line s (lapsed_event ns carrier a ∷ forced_event f ∷ filled_event was left b ∷ queued_event byte q ∷ [])
-others-hold-none s ns carrier a f was left b byte q = (refl, (refl, (refl, (refl, tt))))
+pub others-hold-none : (s t u v w : Set) (ns : ℕ) (carrier : Bool) (a : Result Lapsed Refusal) (f : Result Set Refusal) (was left : List Float) (b : Result Filled Refusal) (byte : ℕ) (q : Result Set Refusal)
+    → NoS12Line s (lapsed_event t ns carrier a ∷ forced_event u f ∷ filled_event v was left b ∷ queued_event w byte q ∷ [])
+others-hold-none s t u v w ns carrier a f was left b byte q = (refl, (refl, (refl, (refl, tt))))
 
 -- of two stages shown the newer is not the lower one
 not_lower : (newer : List ℕ) (y : ℕ) (between : List ℕ) (x : ℕ) (older : List ℕ) → NeverBack (newer ++ y ∷ between ++ x ∷ older) → x ≤ y
@@ -92,14 +91,14 @@ module _ (rate : ℕ) (answer : Made) (d : start.Learnt tt (rate, tt) answer (ra
     as_before : (e : Event) → all_singles s xs ≡ es ++ e ∷ later → AsBefore (set_after s es) e
     as_before e cut = at_call s es e later (subst (AllAsBefore s) cut (without-s12 xs t none))
 
-    pub typed-before-s12 : (byte : ℕ) (carrier : Bool) (was left : List ℕ) (a : Typed)
-        → all_singles s xs ≡ es ++ typed_event byte carrier was left a ∷ later
-        → typed_event byte carrier was left a
-        ≡ typed_event byte carrier was (outbox_before (set_after s es) byte was) (typed_before (set_after s es) byte carrier (length was))
+    pub typed-before-s12 : (byte : ℕ) (carrier : Bool) (was left : List ℕ) (a : Result Typed Refusal)
+        → all_singles s xs ≡ es ++ typed_event (set_after s es) byte carrier was left a ∷ later
+        → typed_event (set_after s es) byte carrier was left a
+        ≡ typed_event (set_after s es) byte carrier was (outbox_before (set_after s es) byte was) (typed_before (set_after s es) byte carrier (length was))
     typed-before-s12 byte carrier was left a cut = (as_before _ cut).answer
 
-    pub lapsed-before-s12 : (ns : ℕ) (carrier : Bool) (a : Lapsed) → all_singles s xs ≡ es ++ lapsed_event ns carrier a ∷ later
-        → lapsed_event ns carrier a ≡ lapsed_event ns carrier (lapsed_before (set_after s es) ns carrier)
+    pub lapsed-before-s12 : (ns : ℕ) (carrier : Bool) (a : Result Lapsed Refusal) → all_singles s xs ≡ es ++ lapsed_event (set_after s es) ns carrier a ∷ later
+        → lapsed_event (set_after s es) ns carrier a ≡ lapsed_event (set_after s es) ns carrier (lapsed_before (set_after s es) ns carrier)
     lapsed-before-s12 ns carrier a cut = (as_before _ cut).answer
 
     pub leaves-50 : (e : Event) → all_singles s xs ≡ es ++ e ∷ later → s12_of e.set ≡ 50
@@ -112,13 +111,13 @@ module _ (rate : ℕ) (answer : Made) (d : start.Learnt tt (rate, tt) answer (ra
     answered : Answered s.rate (last_set s xs) before e
     answered = at-step s.rate s (blank s.rate) xs (single e) later (claim (xs ++ single e ∷ later) t).answered
 
-    pub number_is : refusal_number e.refusal ≡ declined_with before e.call
+    pub number_is : answer_number e.refusal ≡ declined_with before e.call
     number_is = answered.number
 
-    pub never-unsound : refusal_number e.refusal ≡ 6 → ⊥
+    pub never-unsound : answer_number e.refusal ≡ 6 → ⊥
     never-unsound = answered.sound
 
-    module _ (declined : refusal_number e.refusal ≡ 0 → ⊥) where
+    module _ (declined : answer_number e.refusal ≡ 0 → ⊥) where
       unchanged : Unchanged (last_set s xs) e
       unchanged = answered.unchanged declined
 
@@ -163,10 +162,10 @@ module _ (rate : ℕ) (answer : Made) (d : start.Learnt tt (rate, tt) answer (ra
     string-answered : StringAnswered s.rate (last_set s xs) string-before e
     string-answered = at-step s.rate s (blank s.rate) xs (string e) later (claim (xs ++ string e ∷ later) t).answered
 
-    pub string-number-is : refusal_number e.answer.refusal ≡ refusal_number (cause_of e)
+    pub string-number-is : answer_number e.refusal ≡ answer_number (cause_of e)
     string-number-is = string-answered.number
 
-    pub string-never-unsound : refusal_number e.answer.refusal ≡ 6 → ⊥
+    pub string-never-unsound : answer_number e.refusal ≡ 6 → ⊥
     string-never-unsound = string-answered.sound
 
     pub bytes-answered : AllAnswered s.rate (last_set s xs) string-before (singles (last_set s xs) (string e))
@@ -175,17 +174,17 @@ module _ (rate : ℕ) (answer : Made) (d : start.Learnt tt (rate, tt) answer (ra
     pub string-outbox : e.outbox_left ≡ at_front (sent_in (singles (last_set s xs) (string e))) e.outbox
     string-outbox = string-answered.outbox
 
-    pub string-sent : e.answer.sent ≡ length (sent_in (singles (last_set s xs) (string e)))
+    pub string-sent : e.sent ≡ length (sent_in (singles (last_set s xs) (string e)))
     string-sent = string-answered.sent
 
     pub string-codes : e.codes_left ≡ at_front (codes_in (singles (last_set s xs) (string e))) e.codes
     string-codes = string-answered.codes
 
-    module _ (declined : refusal_number e.answer.refusal ≡ 0 → ⊥) where
+    module _ (declined : answer_number e.refusal ≡ 0 → ⊥) where
       string-unchanged : StringUnchanged (last_set s xs) e
       string-unchanged = string-answered.unchanged declined
 
-      pub declined-string-set : e.answer.set ≡ last_set s xs
+      pub declined-string-set : e.set ≡ last_set s xs
       declined-string-set = string-unchanged.set
 
       pub declined-string-outbox : e.outbox_left ≡ e.outbox
@@ -194,19 +193,19 @@ module _ (rate : ℕ) (answer : Made) (d : start.Learnt tt (rate, tt) answer (ra
       pub declined-string-codes : e.codes_left ≡ e.codes
       declined-string-codes = string-unchanged.codes
 
-      pub declined-string-sent : e.answer.sent ≡ 0
+      pub declined-string-sent : e.sent ≡ 0
       declined-string-sent = string-unchanged.sent
 
-    string-reports : Reports e.answer.set (book_after s.rate string-before (calls_of (string e)))
+    string-reports : Reports e.set (book_after s.rate string-before (calls_of (string e)))
     string-reports = string-answered.reports
 
-    pub string-reports-count : e.answer.set.session.m ≡ (book_after s.rate string-before (calls_of (string e))).count
+    pub string-reports-count : e.set.session.m ≡ (book_after s.rate string-before (calls_of (string e))).count
     string-reports-count = string-reports.count
 
-    pub string-reports-state : e.answer.set.session.state ≡ (book_after s.rate string-before (calls_of (string e))).state
+    pub string-reports-state : e.set.session.state ≡ (book_after s.rate string-before (calls_of (string e))).state
     string-reports-state = string-reports.state
 
-    pub string-reports-stage : e.answer.set.session.shown ≡ (book_after s.rate string-before (calls_of (string e))).shown
+    pub string-reports-stage : e.set.session.shown ≡ (book_after s.rate string-before (calls_of (string e))).shown
     string-reports-stage = string-reports.stage
 
   -- a list with strings is one without, that leads to the same set

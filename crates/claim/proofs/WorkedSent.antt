@@ -31,7 +31,7 @@ use Rattle.sender.specs.Wave.{after}
 use Rattle.set.specs.declared.Set.{Set}
 use Rattle.set.specs.Refusals.{cause_of_fill, accepted, either}
 use Rattle.set.specs.Set.{fresh_set}
-use Rattle.set.specs.Book.{Call, filling, queuing, Book, blank, Entry, declined, asks, fills, queues, entry_of, entered}
+use Rattle.set.specs.Book.{Call, filling, queuing, Book, blank, Entry, declined, asks, fills, queues, unless_declined, entry_of, entered}
 use Rattle.set.specs.Event.{Event}
 use Rattle.claim.specs.Claim.{SinceDial, not_called, noted_control, noted_fill, noted, call_of, book_after, since_after}
 use Rattle.claim.specs.Strings.{Step, single, string, set_of, History, last_set, cause_of, typed_singly, singles, all_singles, typings, calls_of, all_calls}
@@ -94,10 +94,10 @@ fills-queue : (k : Book) (bytes : List ℕ) (bs : List ℕ) → queued_in k byte
 unfolding entry_of
 fills-queue k bytes [] = refl
 fills-queue k bytes (b ∷ bs) =
-    ap (λ (more : List ℕ). queued_in (entered 8000 k (filling b)) more (map filling bs)) (go (accepted (cause_of_fill true (ltb 65536 b))))
+    ap (λ (more : List ℕ). queued_in (entered 8000 k (filling b)) more (map filling bs)) (go (ltb 65536 b))
     ∙ fills-queue (entered 8000 k (filling b)) bytes bs
   where
-    go : (t : Bool) → queued_by (either t (fills b) (declined (cause_of_fill true (ltb 65536 b)))) bytes ≡ bytes
+    go : (long : Bool) → queued_by (unless_declined (cause_of_fill true long) (fills b)) bytes ≡ bytes
     go true = refl
     go false = refl
 

@@ -25,11 +25,11 @@ NoS12Line s (e ∷ es) = (ends_s12 s e.call ≡ false) × NoS12Line e.set es
 
 -- the call as it was before: its set, refusal, reply and count, and what it left of what it was lent
 abbrev pub before : Set → Call → Event → Event
-before s (typing byte carrier room) e = typed_event byte carrier e.lent.bytes (outbox_before s byte e.lent.bytes) (typed_before s byte carrier room)
-before s (time ns carrier) e = lapsed_event ns carrier (lapsed_before s ns carrier)
-before s forcing e = forced_event (forced s)
-before s (filling b) e = filled_event e.lent.samples (buffer s e.lent.samples) (fill s b)
-before s (queuing byte) e = queued_event byte (byte_queued s byte)
+before s (typing byte carrier room) e = typed_event s byte carrier e.lent.bytes (outbox_before s byte e.lent.bytes) (typed_before s byte carrier room)
+before s (time ns carrier) e = lapsed_event s ns carrier (lapsed_before s ns carrier)
+before s forcing e = forced_event s (forced s)
+before s (filling b) e = filled_event s e.lent.samples (buffer s e.lent.samples) (fill s b)
+before s (queuing byte) e = queued_event s byte (byte_queued s byte)
 
 pub record AsBefore (s : Set) (e : Event) : Type 0 where
   pub answer : e ≡ before s e.call e

@@ -9,7 +9,8 @@ use Rattle.session.specs.declared.SessionState.TheVariants.{Idle, Dialling, Answ
 use Rattle.schedule.specs.Bounds.{TotalBounds}
 use Rattle.passage.specs.Overture.{HasLength}
 use Rattle.set.specs.declared.Set.{Set}
-use Rattle.set.specs.Refusals.{refusal_number, Declined}
+use Rattle.refusal.specs.Refusal.{answer_number}
+use Rattle.set.specs.Refusals.{Declined}
 use Rattle.set.specs.Book.{Call, Book, overture, length_of, Entry, declined, asks, fills, queues, entry_of, declined_with, key_answered, entered}
 use Rattle.set.specs.Event.{Event, Unchanged}
 use Rattle.claim.specs.Sent.{Sent, nothing_sent, sent_queued, sent_filled}
@@ -95,8 +96,8 @@ pub record Reports (s : Set) (k : Book) : Type 0 where
 -- the call is declined with the book's number, never with 6; a declined call changes nothing; then the set reports what the book says. 02, E8: the
 -- key answered is the book's: after a fill that is not declined that of the overture's sample m
 pub record Answered (r : ℕ) (s : Set) (k : Book) (e : Event) : Type 0 where
-  pub number : refusal_number e.refusal ≡ declined_with k e.call
-  pub sound : refusal_number e.refusal ≡ 6 → ⊥
+  pub number : answer_number e.refusal ≡ declined_with k e.call
+  pub sound : answer_number e.refusal ≡ 6 → ⊥
   pub unchanged : Declined e.refusal → Unchanged s e
   pub reports : Reports e.set (entered r k e.call)
   pub key : e.key ≡ key_answered r k e.call

@@ -1,12 +1,13 @@
 -- Demand 3 with 02, E3 and E10: the claim about every list of calls, strings among them. "A macro in the middle of a list of calls counts as its single
 -- bytes for the overture's wave, a declined one as none."
-use Rattle.std.specs.Prelude.{ℕ, ◌≡◌, Bool, true, List, [], ◌∷◌, ◌++◌, map, length, take}
+use Rattle.std.specs.Prelude.{ℕ, ◌≡◌, Bool, true, List, [], ◌∷◌, ◌++◌, map, length, take, Result}
 use Rattle.reply.specs.Codes.{first_of, second_of}
 use Rattle.queue.specs.Queue.{waiting}
 use Rattle.set.specs.declared.Set.{Set}
-use Rattle.set.specs.declared.Refusal.{Refusal}
+use Rattle.refusal.specs.declared.Refusal.{Refusal}
 use Rattle.set.specs.declared.TypedAll.{TypedAll}
-use Rattle.set.specs.Refusals.{refusal_number, Declined, if_accepted}
+use Rattle.refusal.specs.Refusal.{answer_number}
+use Rattle.set.specs.Refusals.{Checked, Declined, if_accepted}
 use Rattle.set.specs.Set as set
 use Rattle.set.specs.String.{four, cause_by_lengths, at_front}
 use Rattle.set.specs.Book.{Call, typing, Book, blank, length_of}
@@ -23,14 +24,14 @@ pub data Step : Type 0 where
 
 abbrev pub set_of : Step → Set
 set_of (single e) = e.set
-set_of (string e) = e.answer.set
+set_of (string e) = e.set
 
 -- the step is a call on the set s, which did what its contract promises
 pub data Happened (s : Set) : Step → Type 0 where
   called : (e : Event) → Did s e → Happened s (single e)
-  typed_all : (bytes : List ℕ) (carrier : Bool) (was left codes codes_left : List ℕ) (answer : TypedAll)
+  typed_all : (bytes : List ℕ) (carrier : Bool) (was left codes codes_left : List ℕ) (answer : Result TypedAll Refusal)
       → IsTypedAll s bytes carrier was left codes codes_left answer
-      → Happened s (string (string_event bytes carrier was left codes codes_left answer))
+      → Happened s (string (string_event s bytes carrier was left codes codes_left answer))
 
 -- each is made on the set that the one before returned
 abbrev pub History : Set → List Step → Type 0
@@ -41,14 +42,14 @@ last_set s xs = expand.after set_of s xs
 
 -- ---- what it counts as: its single bytes, each with an outbox of four; a declined string as none
 -- by the arguments alone; 6 cannot come
-abbrev pub cause_of : StringEvent → Refusal
+abbrev pub cause_of : StringEvent → Checked
 cause_of e = cause_by_lengths true (length e.bytes) (length e.outbox) (length e.codes)
 
 abbrev pub typed_singly : Set → List ℕ → Bool → List Event
 typed_singly s [] carrier = []
 typed_singly s (byte ∷ bytes) carrier =
-    typed_event byte carrier four (set.outbox s byte four) (set.typed s byte carrier 4)
-    ∷ typed_singly (set.typed s byte carrier 4).set bytes carrier
+    typed_event s byte carrier four (set.outbox s byte four) (set.typed s byte carrier 4)
+    ∷ typed_singly (set.set_typed s (set.typed s byte carrier 4)) bytes carrier
 
 abbrev pub singles : Set → Step → List Event
 singles s (single e) = e ∷ []
@@ -81,15 +82,15 @@ all_calls xs = expand.all_calls set_of calls_of xs
 -- a string is declined with its arguments' number, 8 or 9, never with 6; a declined one changes nothing; each byte of another is answered as a
 -- call; then the set reports what the book says after all of them
 pub record StringAnswered (r : ℕ) (s : Set) (k : Book) (e : StringEvent) : Type 0 where
-  pub number : refusal_number e.answer.refusal ≡ refusal_number (cause_of e)
-  pub sound : refusal_number e.answer.refusal ≡ 6 → ⊥
-  pub unchanged : Declined e.answer.refusal → StringUnchanged s e
+  pub number : answer_number e.refusal ≡ answer_number (cause_of e)
+  pub sound : answer_number e.refusal ≡ 6 → ⊥
+  pub unchanged : Declined e.refusal → StringUnchanged s e
   pub bytes : AllAnswered r s k (singles s (string e))
   -- bytes sent in order, count, and codes are those of the single calls; what was lent past them keeps its contents
   pub outbox : e.outbox_left ≡ at_front (sent_in (singles s (string e))) e.outbox
-  pub sent : e.answer.sent ≡ length (sent_in (singles s (string e)))
+  pub sent : e.sent ≡ length (sent_in (singles s (string e)))
   pub codes : e.codes_left ≡ at_front (codes_in (singles s (string e))) e.codes
-  pub reports : Reports e.answer.set (book_after r k (calls_of (string e)))
+  pub reports : Reports e.set (book_after r k (calls_of (string e)))
 
 abbrev pub StepAnswered : ℕ → Set → Book → Step → Type 0
 StepAnswered r s k (single e) = Answered r s k e

@@ -6,7 +6,6 @@ use mathlib.Core.Bool.{true}
 use lib.Dec.{lit≤}
 use Rattle.math.specs.Float.{of_nat}
 use Rattle.nco.specs.Nco.{step_of}
-use Rattle.std.specs.Prelude.{Option, None}
 use Rattle.keys.specs.declared.Key.{Key}
 use Rattle.stage.specs.declared.StageState.TheVariants.{Dialling}
 use Rattle.stage.specs.declared.StageState.{StageState}
@@ -30,43 +29,51 @@ use Rattle.set.specs.Sound.{sound}
 use Rattle.set.specs.Set.{fresh_set, moved}
 use Rattle.set.proofs.Soundness.{fresh-sound, control-sound}
 use Rattle.set.proofs.Cases.{ones, unsound-81}
-use Rattle.cue.specs.declared.Refusal.{Refusal}
-use Rattle.cue.specs.declared.Refusal.TheVariants.{Accepted, Unsound, Position}
+use Rattle.std.specs.Prelude.{Result, Ok, Err, None}
+use Rattle.refusal.specs.declared.Refusal.{Refusal}
+use Rattle.refusal.specs.Refusal.{answer_number}
+use Rattle.set.specs.Refusals.{Checked, Declined, answered, checked}
+use Rattle.set.proofs.Unchanged.{checked-is, untold}
 use Rattle.cue.specs.declared.Cued.{Cued}
-use Rattle.cue.specs.Cue.{cue_refusal_number, cue_cause, cued_by, cued}
-use Rattle.cue.proofs.Cueing.{accepted-cued, declined-cued}
+use Rattle.cue.specs.Cue.{cue_cause, found, cued, sample_cued, key_cued}
 use Rattle.cue.proofs.cue.Reads as cue
 
-refusal_is : (c : Refusal) (m : ℕ) (key : Option Key) → (cued_by c m key).refusal ≡ c
-refusal_is Accepted m key = refl
-refusal_is Unsound m key = refl
-refusal_is Position m key = refl
-
-pub cued-answers : (s : Set) (p : ℕ) (answer : Cued) → answer ≡ cued s p
-    → (answer.refusal ≡ cue_cause s p) × ((cue_refusal_number answer.refusal ≡ 0 → ⊥) → (answer.sample ≡ 0) × (answer.key ≡ None))
+pub cued-answers : (s : Set) (p : ℕ) (answer : Result Cued Refusal) → answer ≡ cued s p
+    → (checked answer ≡ cue_cause s p) × (Declined (checked answer) → (sample_cued answer ≡ 0) × (key_cued answer ≡ None))
 unfolding cued
 cued-answers s p answer is =
-    let refused : answer.refusal ≡ cue_cause s p = ap (λ (c : Cued). c.refusal) is ∙ refusal_is (cue_cause s p) _ _ in
-    (refused, λ no. let told = is ∙ declined-cued (cue_cause s p) _ _ (rw refused at no) in (ap (λ (c : Cued). c.sample) told, ap (λ (c : Cued). c.key) told))
+    let refused = checked-is (cue_cause s p) (found s p) in
+    rw is (
+      refused,
+      λ no.
+          let declined : Declined (cue_cause s p) = rw (← refused) no in
+          (untold (cue_cause s p) declined _ 0 (found s p), untold (cue_cause s p) declined _ None (found s p)),
+    )
 
-module _ (s : Set) (p : ℕ) (answer : Cued) (d : cue.Learnt tt (s, (p, tt)) answer (s, (p, tt))) where
-  -- the definition's answer
-  pub cue-is : answer ≡ cued s p
-  cue-is = d.0
+-- an answer that is no cause is what is found
+taken-is : (s : Set) (p : ℕ) (answer : Cued) → Ok answer ≡ cued s p → answer ≡ found s p
+unfolding cued
+taken-is s p answer is = go (cue_cause s p) is
+  where
+    go : (cause : Checked) → Ok answer ≡ answered cause (found s p) → answer ≡ found s p
+    go (Ok done) e = cc
+    go (Err cause) e = absurd (cc)
 
-  refused : answer.refusal ≡ cue_cause s p
-  unfolding cued
-  refused = ap (λ (c : Cued). c.refusal) cue-is ∙ refusal_is (cue_cause s p) _ _
+module _ (s : Set) (p : ℕ) where
+  module _ (answer : Result Cued Refusal) (d : cue.Learnt tt (s, (p, tt)) answer (s, (p, tt))) where
+    -- the definition's answer
+    pub cue-is : answer ≡ cued s p
+    cue-is = d.0
 
-  pub cue-answers : (answer.refusal ≡ cue_cause s p) × ((cue_refusal_number answer.refusal ≡ 0 → ⊥) → (answer.sample ≡ 0) × (answer.key ≡ None))
-  cue-answers = cued-answers s p answer cue-is
+    pub cue-answers : (checked answer ≡ cue_cause s p) × (Declined (checked answer) → (sample_cued answer ≡ 0) × (key_cued answer ≡ None))
+    cue-answers = cued-answers s p answer cue-is
 
-  module _ (accepted : cue_refusal_number answer.refusal ≡ 0) where
+  module _ (answer : Cued) (d : cue.Learnt tt (s, (p, tt)) (Ok answer) (s, (p, tt))) where
     pub in-tone : InDigitTone (digits_held s.session) s.rate p answer.sample
-    in-tone = (d.1 accepted).in_tone
+    in-tone = d.1.in_tone
 
     pub no-smaller : (k : ℕ) → InDigitTone (digits_held s.session) s.rate p k → answer.sample ≤ k
-    no-smaller = (d.1 accepted).least
+    no-smaller = d.1.least
 
     pub cue-number : answer.sample ≡ suc in-tone.before
     cue-number = in-tone.number
@@ -77,8 +84,7 @@ module _ (s : Set) (p : ℕ) (answer : Cued) (d : cue.Learnt tt (s, (p, tt)) ans
     cue-plays = in-tone.state
 
     pub cue-key : answer.key ≡ dialled_key (digits_held s.session) p true
-    unfolding cued
-    cue-key = ap (λ (c : Cued). c.key) (cue-is ∙ accepted-cued (cue_cause s p) _ _ (rw refused at accepted))
+    cue-key = ap (λ (c : Cued). c.key) (taken-is s p answer d.0)
 
     -- which is the key of the cue's sample
     pub cue-lights :
@@ -101,11 +107,11 @@ unfolding controlled rate_ok
 sound-12 = control-sound (fresh_set 8000) (fresh-sound 8000 refl) (Some Dial) (ascii "12") fresh (lit≤ tt) sound-fresh
 
 -- 7
-pub position-2 : cue_refusal_number (cue_cause call-12 2) ≡ 7
+pub position-2 : answer_number (cue_cause call-12 2) ≡ 7
 unfolding cue_cause dialling state_number
 position-2 = rw (sound-12, dials-12)
 
 -- 6 before 7: a line of 81 bytes on a set that is Idle
-pub unsound-and-idle : (p : ℕ) → cue_refusal_number (cue_cause (ones 81) p) ≡ 6
+pub unsound-and-idle : (p : ℕ) → answer_number (cue_cause (ones 81) p) ≡ 6
 unfolding cue_cause
 unsound-and-idle p = rw unsound-81

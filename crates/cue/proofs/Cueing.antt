@@ -10,8 +10,6 @@ use lib.ListN.{length}
 use lib.Seq.{length-take-le}
 use borrow.Author.Tests.{ltb-true, eqb-true, le-leb}
 use Rattle.math.specs.Float.{one}
-use Rattle.std.specs.Prelude.{Option, None}
-use Rattle.keys.specs.declared.Key.{Key}
 use Rattle.schedule.specs.Time.{samples_in}
 use Rattle.schedule.specs.Length.{click_time, dialling_samples}
 use Rattle.schedule.proofs.Lengths.{dialling-range}
@@ -21,9 +19,8 @@ use Rattle.passage.proofs.Cue.{first-sample, first-sample-is}
 use Rattle.session.specs.Session.{state_number, digits_held}
 use Rattle.set.specs.declared.Set.{Set}
 use Rattle.set.specs.Sound.{sound}
-use Rattle.cue.specs.declared.Refusal.{Refusal}
-use Rattle.cue.specs.declared.Refusal.TheVariants.{Accepted, Unsound, Position}
-use Rattle.cue.specs.Cue.{cue_refusal_number, cuable, cause_of_cue, cue_cause, cued_by}
+use Rattle.refusal.specs.Refusal.{answer_number}
+use Rattle.cue.specs.Cue.{cuable, cause_of_cue, cue_cause}
 use Rattle.set.proofs.Ranges.{sound-digits, sound-rate}
 
 -- the samples of the digits before a digit, which the schedule tells where there are some; and at most
@@ -36,23 +33,12 @@ pub few-samples : (p r : ℕ) → p < 76 → 8000 ≤ r → r ≤ 192000 → sam
 few-samples zero r h lo hi = lit≤ tt
 few-samples (suc p) r h lo hi = (dialling-range r lo hi (suc p) (le_of_lt h)).1
 
--- an answer is by its refusal's number
-pub accepted-cued : (c : Refusal) (m : ℕ) (key : Option Key) → cue_refusal_number c ≡ 0 → cued_by c m key ≡ record { refusal = c; sample = m; key = key }
-accepted-cued Accepted m key e = refl
-accepted-cued Unsound m key e = absurd (omega arith)
-accepted-cued Position m key e = absurd (omega arith)
-
-pub declined-cued : (c : Refusal) (m : ℕ) (key : Option Key) → (cue_refusal_number c ≡ 0 → ⊥) → cued_by c m key ≡ record { refusal = c; sample = 0; key = None }
-declined-cued Accepted m key e = absurd (e refl)
-declined-cued Unsound m key e = refl
-declined-cued Position m key e = refl
-
-module _ (s : Set) (p : ℕ) (accepted : cue_refusal_number (cue_cause s p) ≡ 0) where
+module _ (s : Set) (p : ℕ) (accepted : answer_number (cue_cause s p) ≡ 0) where
   able : (sound s ≡ true) × (cuable s p ≡ true)
   unfolding cue_cause
   able = go (sound s) (cuable s p) accepted
     where
-      go : (ok able : Bool) → cue_refusal_number (cause_of_cue ok able) ≡ 0 → (ok ≡ true) × (able ≡ true)
+      go : (ok able : Bool) → answer_number (cause_of_cue ok able) ≡ 0 → (ok ≡ true) × (able ≡ true)
       go false able e = let no : ⊥ = omega arith in absurd no
       go true false e = let no : ⊥ = omega arith in absurd no
       go true true e = (refl, refl)

@@ -1,7 +1,7 @@
 // The cue: for a digit of the call, the first sample of that digit's tone, so that a light can be set to it, and its key.
 #![tactic(auto)]
 
-ghost use Rattle.std.specs.Prelude.{◌≡◌, true, ◌+◌, ◌<◌, ◌≤◌};
+ghost use Rattle.std.specs.Prelude.{◌≡◌, true, ◌+◌, ◌<◌, ◌≤◌, IfOk};
 ghost use Rattle.math.specs.Float.{one};
 ghost use Rattle.schedule.specs.Time.{samples_in, min_rate, max_rate};
 ghost use Rattle.schedule.specs.Length.{click_time};
@@ -9,38 +9,18 @@ ghost use Rattle.tones.specs.Dial.{dialled_key};
 ghost use Rattle.passage.specs.Lengths.{samples_of_digits};
 ghost use Rattle.passage.specs.Cue.{FirstInTone};
 ghost use Rattle.session.specs.Session.{digits_held};
-ghost use Rattle.cue.specs.Cue.{cue_refusal_number, cue_cause, cued};
+ghost use Rattle.cue.specs.declared.Cued.{Cued};
+ghost use Rattle.cue.specs.Cue.{cue_cause, cued};
 
 use keys::Key;
+use refusal::Refusal;
 use set::Set;
-
-// Why a cue is declined, if it is.
-#[derive(Clone, Copy)]
-pub enum Refusal {
-    Accepted,
-    Unsound,
-    Position,
-}
 
 #[derive(Clone, Copy)]
 pub struct Cued {
-    pub refusal: Refusal,
     pub sample: u64,
     // that of the digit
     pub key: Option<Key>,
-}
-
-impl Refusal {
-    // 01's number.
-    pub fn number(self) -> u8
-        ensures { result ≡ cue_refusal_number self }
-    {
-        match self {
-            Refusal::Accepted => 0,
-            Refusal::Unsound => 6,
-            Refusal::Position => 7,
-        }
-    }
 }
 
 // How many samples of Dialling come before a digit's: none, or those of the digits before it.
@@ -71,45 +51,32 @@ fn cue_key(set: Set, position: u32) -> Option<Key>
     ensures { result ≡ dialled_key (digits_held set.session) position true }
 {
     let digits = set.digits();
-    let keys = digits.keys;
-    let len = digits.len;
-    let from: usize = 0;
-    tones::dialled_key(&keys[from..len], position as u64, true)
+    tones::dialled_key(&digits.keys[..digits.len], position as u64, true)
 }
 
-fn cue_cause(set: Set, position: u32) -> Refusal
+#[tactic(auto, unfolding(crate::specs::Cue::cue_cause))]
+fn cue_cause(set: Set, position: u32) -> Result<(), Refusal>
     ensures { result ≡ cue_cause set position }
 {
-    let session = set.session;
-    let state = session.state;
-    let len = session.digits.len;
-    if set.sound() {
-        if (state.number() == 1) & ((position as usize) < len) {
-            return Refusal::Accepted;
-        }
-        return Refusal::Position;
+    if !set.sound() {
+        return Err(Refusal::Unsound);
     }
-    Refusal::Unsound
+    let state = set.session.state;
+    let len = set.session.digits.len;
+    if (state.number() == 1) & ((position as usize) < len) {
+        return Ok(());
+    }
+    Err(Refusal::Position)
 }
 
 // The first sample number, from 1 in the whole overture, in the tone of the digit at a position, and the digit's key.
-pub fn cue(set: Set, position: u32) -> Cued
+#[tactic(auto, unfolding(crate::specs::Cue::cued))]
+pub fn cue(set: Set, position: u32) -> Result<Cued, Refusal>
     ensures value { result ≡ cued set position }
-    ensures first_in_tone { cue_refusal_number result.refusal ≡ 0 → FirstInTone (digits_held set.session) set.rate position result.sample }
+    ensures first_in_tone { IfOk result (λ (c : Cued). FirstInTone (digits_held set.session) set.rate position c.sample) }
 {
-    let refusal = cue_cause(set, position);
-    if refusal.number() == 0 {
-        let sample = cue_sample(position, set.rate);
-        let key = cue_key(set, position);
-        return Cued {
-            refusal,
-            sample,
-            key,
-        };
-    }
-    Cued {
-        refusal,
-        sample: 0,
-        key: None,
-    }
+    cue_cause(set, position)?;
+    let sample = cue_sample(position, set.rate);
+    let key = cue_key(set, position);
+    Ok(Cued { sample, key })
 }

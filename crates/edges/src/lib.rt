@@ -3,39 +3,22 @@
 #![tactic(auto)]
 
 ghost use Rattle.std.specs.Prelude.{◌≡◌, ◌≤◌, leb, length};
-ghost use Rattle.set.specs.Set.{buffer};
+ghost use Rattle.set.specs.Set.{fill, buffer, set_filled};
 ghost use Rattle.edges.specs.Icon.{icon_of, shown, icon_after, IsFirst, FirstIs};
 
-use set::{Refusal, Set};
-
-#[derive(Clone, Copy)]
-pub struct Shown {
-    pub refusal: Refusal,
-    pub icon: u8,
-}
-
-#[derive(Clone, Copy)]
-pub struct First {
-    pub refusal: Refusal,
-    // from 1
-    pub sample: usize,
-}
+use refusal::Refusal;
+use set::Set;
 
 // The number of the icon shown: the stage's, or 10 once the line is up. It is worked out of two fields, so
 // the set is checked.
-pub fn icon(set: Set) -> Shown
+#[tactic(auto, unfolding(crate::specs::Icon::shown))]
+pub fn icon(set: Set) -> Result<u8, Refusal>
     ensures { result ≡ shown set }
 {
-    if set.sound() {
-        return Shown {
-            refusal: Refusal::Accepted,
-            icon: icon_number(set),
-        };
+    if !set.sound() {
+        return Err(Refusal::Unsound);
     }
-    Shown {
-        refusal: Refusal::Unsound,
-        icon: 0,
-    }
+    Ok(icon_number(set))
 }
 
 fn icon_number(set: Set) -> u8
@@ -50,25 +33,21 @@ fn icon_number(set: Set) -> u8
 
 // Which of the buffer's samples is the first of a stage whose icon, or a later one, is shown once they are
 // filled. Shorter fills find it, so the buffer is filled anew behind them.
-pub fn first_sample(set: Set, stage: u8, samples: &mut [f32]) -> First
+pub fn first_sample(set: Set, stage: u8, samples: &mut [f32]) -> Result<usize, Refusal>
     ensures first_is { FirstIs set stage (length samples.old) result }
     ensures samples_after { samples.new ≡ buffer set samples.old }
 {
-    let filled = set.process_out(samples);
-    let refusal = filled.refusal;
-    if refusal.accepted() {
-        let sample = search(set, stage, samples);
-        set.process_out(samples);
-        return First { refusal, sample };
-    }
-    First { refusal, sample: 0 }
+    set.process_out(samples)?;
+    let sample = search(set, stage, samples);
+    let _ = set.process_out(samples);
+    Ok(sample)
 }
 
 // By halving: with `low` samples the stage is not reached, with `high` samples it is.
 fn search(set: Set, stage: u8, samples: &mut [f32]) -> usize
     ensures { IsFirst set stage (length samples.old) result }
 {
-    let mut low: usize = 0;
+    let mut low = 0;
     let mut high = samples.len();
     while high - low > 1 {
         let middle = low + (high - low) / 2;
@@ -82,12 +61,20 @@ fn search(set: Set, stage: u8, samples: &mut [f32]) -> usize
 }
 
 // Whether a stage's icon, or a later one, is shown once `n` samples of the buffer are filled.
+#[tactic(auto, unfolding(crate::specs::Icon::icon_after))]
 fn shows(set: Set, stage: u8, n: usize, samples: &mut [f32]) -> bool
     requires { n ≤ length samples.old }
     ensures { result ≡ leb stage (icon_after set n) }
 {
-    let none: usize = 0;
-    let filled = set.process_out(&mut samples[none..n]);
-    let next = filled.set;
-    stage <= icon_number(next)
+    stage <= icon_number(after_fill(set, &mut samples[..n]))
+}
+
+// The set that a fill leaves, declined or not.
+fn after_fill(set: Set, samples: &mut [f32]) -> Set
+    ensures { result ≡ set_filled set (fill set (length samples.old)) }
+{
+    match set.process_out(samples) {
+        Ok(filled) => filled.set,
+        Err(_) => set,
+    }
 }

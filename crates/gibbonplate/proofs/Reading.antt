@@ -19,10 +19,15 @@ use Rattle.reply.specs.Texts.{text_of}
 use Rattle.at.specs.Processor.{command_mode}
 use Rattle.session.specs.Session.{state_number}
 use Rattle.set.specs.declared.Set.{Set}
-use Rattle.set.specs.Refusals.{refusal_number}
-use Rattle.set.specs.Set.{s12_of, made, typed, outbox, lapsed, forced, byte_queued, fill, buffer, rung}
+use Rattle.refusal.specs.Refusal.{answer_number}
+use Rattle.set.specs.declared.Typed.{Typed}
+use Rattle.set.specs.declared.TypedAll.{TypedAll}
+use Rattle.set.specs.declared.Lapsed.{Lapsed}
+use Rattle.set.specs.declared.Filled.{Filled}
+use Rattle.set.specs.Refusals.{told}
+use Rattle.set.specs.Set.{s12_of, made, typed, outbox, lapsed, forced, byte_queued, fill, buffer, rung, reply_typed, sent_typed, reply_lapsed, key_filled}
 use Rattle.set.specs.String.{typed_all, outbox_all, codes_all}
-use Rattle.cue.specs.Cue.{cue_refusal_number, cued}
+use Rattle.cue.specs.Cue.{cued, sample_cued, key_cued}
 use Rattle.passage.specs.Overture.{HasLength}
 use Rattle.plan.specs.Plan.{plan_refusal_number, plan_cause, stage_samples, total_samples}
 use Rattle.handset.specs.Sound.{samples_after}
@@ -67,52 +72,52 @@ module _ (longs counts : MutBor (List ℕ)) (reals : MutBor (List Float)) (marks
     pub new-call : (κs : Lfts 7) (rate : ℕ)
         → new_in.Learnt κs (longs, (counts, (reals, (marks, (line, (keys, (queue, (rate, tt)))))))) number
         (at_last longs longs1, (at_last counts counts1, (at_last reals reals1, (at_last marks marks1, (at_last line line1, (at_last keys keys1, (at_last queue queue1, (rate, tt))))))))
-        → (number ≡ refusal_number (made rate).refusal) × (is ≡ stored (made rate).set)
+        → (number ≡ answer_number (made rate).checked) × (is ≡ stored (made rate).set)
     new-call κs rate d = (d.refusal, d.memory)
 
     pub feed-call : (κs : Lfts 10) (byte : ℕ) (carrier : Bool) (out codes : MutBor (List ℕ)) (sent : MutBor ℕ) (left given : List ℕ) (count : ℕ)
         → feed-in.Learnt κs (longs, (counts, (reals, (marks, (line, (keys, (queue, (byte, (carrier, (out, (codes, (sent, tt)))))))))))) number
         (at_last longs longs1, (at_last counts counts1, (at_last reals reals1, (at_last marks marks1, (at_last line line1, (at_last keys keys1, (at_last queue queue1, (byte, (carrier, (at_last out left, (at_last codes given, (at_last sent count, tt))))))))))))
         → let answer = typed s byte carrier (length out.now) in
-        (number ≡ refusal_number answer.refusal) × (is ≡ kept number answer.set was) × (left ≡ outbox s byte out.now)
-        × (given ≡ first_of answer.reply ∷ second_of answer.reply ∷ []) × (count ≡ answer.sent)
+        (number ≡ answer_number answer) × (is ≡ kept (λ (a : Typed). a.set) answer was) × (left ≡ outbox s byte out.now)
+        × (given ≡ first_of (reply_typed answer) ∷ second_of (reply_typed answer) ∷ []) × (count ≡ sent_typed answer)
     feed-call κs byte carrier out codes sent left given count d = (d.refusal, d.memory, d.outbox, d.codes, d.sent)
 
     pub string-call : (κs : Lfts 11) (bytes : Bor (List ℕ)) (carrier : Bool) (out codes : MutBor (List ℕ)) (sent : MutBor ℕ) (left given : List ℕ) (count : ℕ)
         → feed-all-in.Learnt κs (longs, (counts, (reals, (marks, (line, (keys, (queue, (bytes, (carrier, (out, (codes, (sent, tt)))))))))))) number
         (at_last longs longs1, (at_last counts counts1, (at_last reals reals1, (at_last marks marks1, (at_last line line1, (at_last keys keys1, (at_last queue queue1, (bytes, (carrier, (at_last out left, (at_last codes given, (at_last sent count, tt))))))))))))
         → let answer = typed_all s bytes.now carrier (length out.now) (length codes.now) in
-        (number ≡ refusal_number answer.refusal) × (is ≡ kept number answer.set was)
+        (number ≡ answer_number answer) × (is ≡ kept (λ (a : TypedAll). a.set) answer was)
         × (left ≡ outbox_all s bytes.now carrier out.now (length codes.now))
-        × (given ≡ codes_all s bytes.now carrier (length out.now) codes.now) × (count ≡ answer.sent)
+        × (given ≡ codes_all s bytes.now carrier (length out.now) codes.now) × (count ≡ told (λ (a : TypedAll). a.sent) 0 answer)
     string-call κs bytes carrier out codes sent left given count d = (d.refusal, d.memory, d.outbox, d.codes, d.sent)
 
     pub time-call : (κs : Lfts 8) (ns : ℕ) (carrier : Bool) (codes : MutBor (List ℕ)) (given : List ℕ)
         → advance-time-in.Learnt κs (longs, (counts, (reals, (marks, (line, (keys, (queue, (ns, (carrier, (codes, tt)))))))))) number
         (at_last longs longs1, (at_last counts counts1, (at_last reals reals1, (at_last marks marks1, (at_last line line1, (at_last keys keys1, (at_last queue queue1, (ns, (carrier, (at_last codes given, tt))))))))))
         → let answer = lapsed s ns carrier in
-        (number ≡ refusal_number answer.refusal) × (is ≡ kept number answer.set was)
-        × (given ≡ first_of answer.reply ∷ second_of answer.reply ∷ [])
+        (number ≡ answer_number answer) × (is ≡ kept (λ (a : Lapsed). a.set) answer was)
+        × (given ≡ first_of (reply_lapsed answer) ∷ second_of (reply_lapsed answer) ∷ [])
     time-call κs ns carrier codes given d = (d.refusal, d.memory, d.codes)
 
     pub force-call : (κs : Lfts 7)
         → force-data-mode-in.Learnt κs (longs, (counts, (reals, (marks, (line, (keys, (queue, tt))))))) number
         (at_last longs longs1, (at_last counts counts1, (at_last reals reals1, (at_last marks marks1, (at_last line line1, (at_last keys keys1, (at_last queue queue1, tt)))))))
-        → (number ≡ refusal_number (forced s).refusal) × (is ≡ kept number (forced s).set was)
+        → (number ≡ answer_number (forced s)) × (is ≡ kept (λ (a : Set). a) (forced s) was)
     force-call κs d = (d.refusal, d.memory)
 
     pub queue-call : (κs : Lfts 7) (byte : ℕ)
         → queue-byte-in.Learnt κs (longs, (counts, (reals, (marks, (line, (keys, (queue, (byte, tt)))))))) number
         (at_last longs longs1, (at_last counts counts1, (at_last reals reals1, (at_last marks marks1, (at_last line line1, (at_last keys keys1, (at_last queue queue1, (byte, tt))))))))
-        → (number ≡ refusal_number (byte_queued s byte).refusal) × (is ≡ kept number (byte_queued s byte).set was)
+        → (number ≡ answer_number (byte_queued s byte)) × (is ≡ kept (λ (a : Set). a) (byte_queued s byte) was)
     queue-call κs byte d = (d.refusal, d.memory)
 
     pub fill-call : (κs : Lfts 9) (samples : MutBor (List Float)) (key : MutBor (List ℕ)) (left : List Float) (lights : List ℕ)
         → process-out-in.Learnt κs (longs, (counts, (reals, (marks, (line, (keys, (queue, (samples, (key, tt))))))))) number
         (at_last longs longs1, (at_last counts counts1, (at_last reals reals1, (at_last marks marks1, (at_last line line1, (at_last keys keys1, (at_last queue queue1, (at_last samples left, (at_last key lights, tt)))))))))
         → let answer = fill s (length samples.now) in
-        (number ≡ refusal_number answer.refusal) × (is ≡ kept number answer.set was) × (left ≡ buffer s samples.now)
-        × (lights ≡ key_numbers answer.key)
+        (number ≡ answer_number answer) × (is ≡ kept (λ (a : Filled). a.set) answer was) × (left ≡ buffer s samples.now)
+        × (lights ≡ key_numbers (key_filled answer))
     fill-call κs samples key left lights d = (d.refusal, d.memory, d.samples, d.key)
 
 -- ---- those that only read it
@@ -122,13 +127,13 @@ module _ (longs counts : Bor (List ℕ)) (reals : Bor (List Float)) (marks line 
 
   pub ring-call : (κs : Lfts 8) (ring : MutBor ℕ) (value number : ℕ)
       → ring_in.Learnt κs (longs, (counts, (reals, (marks, (line, (keys, (queue, (ring, tt)))))))) number (longs, (counts, (reals, (marks, (line, (keys, (queue, (at_last ring value, tt))))))))
-      → (number ≡ refusal_number (rung u).refusal) × (value ≡ (rung u).ring)
+      → (number ≡ answer_number (rung u)) × (value ≡ told (λ (ring : ℕ). ring) 0 (rung u))
   ring-call κs ring value number d = (d.refusal, d.ring)
 
   pub cue-call : (κs : Lfts 9) (position : ℕ) (sample : MutBor ℕ) (key : MutBor (List ℕ)) (value : ℕ) (lights : List ℕ) (number : ℕ)
       → cue-in.Learnt κs (longs, (counts, (reals, (marks, (line, (keys, (queue, (position, (sample, (key, tt)))))))))) number
       (longs, (counts, (reals, (marks, (line, (keys, (queue, (position, (at_last sample value, (at_last key lights, tt))))))))))
-      → (number ≡ cue_refusal_number (cued u position).refusal) × (value ≡ (cued u position).sample) × (lights ≡ key_numbers (cued u position).key)
+      → (number ≡ answer_number (cued u position)) × (value ≡ sample_cued (cued u position)) × (lights ≡ key_numbers (key_cued (cued u position)))
   cue-call κs position sample key value lights number d = (d.refusal, d.sample, d.key)
 
   -- the plain readers

@@ -1,6 +1,6 @@
 -- A set in memory that a C program lends: seven arrays of plain numbers. 01 does not speak of it; what it owes is that loading what was
 -- stored gives the set back, and that memory which holds no set is an unsound set.
-use Rattle.std.specs.Prelude.{ℕ, Bool, true, false, ◌&&◌, ◌||◌, cond, List, [], ◌∷◌, leb, ltb, eqb, Float, get_or}
+use Rattle.std.specs.Prelude.{ℕ, Bool, true, false, ◌&&◌, ◌||◌, cond, List, [], ◌∷◌, leb, ltb, eqb, Float, get_or, Result, Ok, Err}
 use Rattle.std.specs.Float.{nan}
 use Rattle.math.specs.Float.{zero}
 use Rattle.nco.specs.declared.Nco.{Nco}
@@ -15,6 +15,7 @@ use Rattle.sender.specs.declared.Sending.{Sending}
 use Rattle.session.specs.declared.SessionState.{SessionState}
 use Rattle.session.specs.declared.SessionState.TheVariants.{Idle, Dialling, Answering, Connected}
 use Rattle.session.specs.Session.{state_number}
+use Rattle.refusal.specs.declared.Refusal.{Refusal}
 use Rattle.set.specs.declared.Set.{Set}
 use Rattle.set.specs.Set.{s12_of, fresh_set}
 use Rattle.gibbonplate.specs.declared.memory.Memory.{Memory}
@@ -210,10 +211,7 @@ loaded_if true m = set_in m
 unfoldable pub loaded : Memory → Set
 loaded m = loaded_if (holds_set m.marks) m
 
--- after a call that was answered with a refusal's number and a set: accepted, the set; declined, as it was
-abbrev pub kept_if : Bool → Set → Memory → Memory
-kept_if true s was = stored s
-kept_if false s was = was
-
-unfoldable pub kept : ℕ → Set → Memory → Memory
-kept number s was = kept_if (eqb number 0) s was
+-- after a call: where it is accepted, the set that it answers; where it is declined, as it was
+abbrev pub kept : {X : Type 0} → (X → Set) → Result X Refusal → Memory → Memory
+kept set_of (Ok answer) was = stored (set_of answer)
+kept set_of (Err cause) was = was

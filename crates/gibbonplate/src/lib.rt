@@ -37,10 +37,8 @@ pub extern "C" fn gibbonplate_new_in(
     ensures { NewCall (memory longs.new counts.new reals.new marks.new line.new keys.new queue.new) rate result }
 {
     let made = Set::new(rate);
-    let set = made.set;
-    let refusal = made.refusal;
-    memory::store(set, longs, counts, reals, marks, line, keys, queue);
-    refusal.number()
+    memory::store(made.set, longs, counts, reals, marks, line, keys, queue);
+    refusal::answer_number(&made.checked)
 }
 
 #[unsafe(no_mangle)]
@@ -61,17 +59,20 @@ pub extern "C" fn gibbonplate_feed_in(
     ensures { FeedCall (memory longs.old counts.old reals.old marks.old line.old keys.old queue.old) (memory longs.new counts.new reals.new marks.new line.new keys.new queue.new) byte carrier out.old out.new codes.new sent.new result }
 {
     let set = memory::load(longs, counts, reals, marks, line, keys, queue);
-    let typed = set.feed(byte, carrier, out);
-    let after = typed.set;
-    let reply = typed.reply;
-    let refusal = typed.refusal;
-    let number = refusal.number();
-    *codes = [reply.first(), reply.second()];
-    *sent = typed.sent;
-    memory::keep(
-        number, after, longs, counts, reals, marks, line, keys, queue,
-    );
-    number
+    match set.feed(byte, carrier, out) {
+        Ok(typed) => {
+            let reply = typed.reply;
+            *codes = [reply.first(), reply.second()];
+            *sent = typed.sent;
+            memory::store(typed.set, longs, counts, reals, marks, line, keys, queue);
+            0
+        }
+        Err(refusal) => {
+            *codes = [0, 0];
+            *sent = 0;
+            u8::from(refusal)
+        }
+    }
 }
 
 #[unsafe(no_mangle)]
@@ -92,15 +93,17 @@ pub extern "C" fn gibbonplate_feed_all_in(
     ensures { StringCall (memory longs.old counts.old reals.old marks.old line.old keys.old queue.old) (memory longs.new counts.new reals.new marks.new line.new keys.new queue.new) bytes.now carrier out.old out.new codes.old codes.new sent.new result }
 {
     let set = memory::load(longs, counts, reals, marks, line, keys, queue);
-    let all = set.feed_all(bytes, carrier, out, codes);
-    let after = all.set;
-    let refusal = all.refusal;
-    let number = refusal.number();
-    *sent = all.sent;
-    memory::keep(
-        number, after, longs, counts, reals, marks, line, keys, queue,
-    );
-    number
+    match set.feed_all(bytes, carrier, out, codes) {
+        Ok(all) => {
+            *sent = all.sent;
+            memory::store(all.set, longs, counts, reals, marks, line, keys, queue);
+            0
+        }
+        Err(refusal) => {
+            *sent = 0;
+            u8::from(refusal)
+        }
+    }
 }
 
 #[unsafe(no_mangle)]
@@ -119,16 +122,18 @@ pub extern "C" fn gibbonplate_advance_time_in(
     ensures { TimeCall (memory longs.old counts.old reals.old marks.old line.old keys.old queue.old) (memory longs.new counts.new reals.new marks.new line.new keys.new queue.new) ns carrier codes.new result }
 {
     let set = memory::load(longs, counts, reals, marks, line, keys, queue);
-    let lapsed = set.advance_time(ns, carrier);
-    let after = lapsed.set;
-    let reply = lapsed.reply;
-    let refusal = lapsed.refusal;
-    let number = refusal.number();
-    *codes = [reply.first(), reply.second()];
-    memory::keep(
-        number, after, longs, counts, reals, marks, line, keys, queue,
-    );
-    number
+    match set.advance_time(ns, carrier) {
+        Ok(lapsed) => {
+            let reply = lapsed.reply;
+            *codes = [reply.first(), reply.second()];
+            memory::store(lapsed.set, longs, counts, reals, marks, line, keys, queue);
+            0
+        }
+        Err(refusal) => {
+            *codes = [0, 0];
+            u8::from(refusal)
+        }
+    }
 }
 
 #[unsafe(no_mangle)]
@@ -144,14 +149,13 @@ pub extern "C" fn gibbonplate_force_data_mode_in(
     ensures { ForceCall (memory longs.old counts.old reals.old marks.old line.old keys.old queue.old) (memory longs.new counts.new reals.new marks.new line.new keys.new queue.new) result }
 {
     let set = memory::load(longs, counts, reals, marks, line, keys, queue);
-    let forced = set.force_data_mode();
-    let after = forced.set;
-    let refusal = forced.refusal;
-    let number = refusal.number();
-    memory::keep(
-        number, after, longs, counts, reals, marks, line, keys, queue,
-    );
-    number
+    match set.force_data_mode() {
+        Ok(forced) => {
+            memory::store(forced, longs, counts, reals, marks, line, keys, queue);
+            0
+        }
+        Err(refusal) => u8::from(refusal),
+    }
 }
 
 #[unsafe(no_mangle)]
@@ -168,14 +172,13 @@ pub extern "C" fn gibbonplate_queue_byte_in(
     ensures { QueueCall (memory longs.old counts.old reals.old marks.old line.old keys.old queue.old) (memory longs.new counts.new reals.new marks.new line.new keys.new queue.new) byte result }
 {
     let set = memory::load(longs, counts, reals, marks, line, keys, queue);
-    let queued = set.queue_byte(byte);
-    let after = queued.set;
-    let refusal = queued.refusal;
-    let number = refusal.number();
-    memory::keep(
-        number, after, longs, counts, reals, marks, line, keys, queue,
-    );
-    number
+    match set.queue_byte(byte) {
+        Ok(queued) => {
+            memory::store(queued, longs, counts, reals, marks, line, keys, queue);
+            0
+        }
+        Err(refusal) => u8::from(refusal),
+    }
 }
 
 // Row and column; 255 for none.
@@ -203,16 +206,17 @@ pub extern "C" fn gibbonplate_process_out_in(
     ensures { FillCall (memory longs.old counts.old reals.old marks.old line.old keys.old queue.old) (memory longs.new counts.new reals.new marks.new line.new keys.new queue.new) samples.old samples.new key.new result }
 {
     let set = memory::load(longs, counts, reals, marks, line, keys, queue);
-    let filled = set.process_out(samples);
-    let after = filled.set;
-    let lit = filled.key;
-    let refusal = filled.refusal;
-    let number = refusal.number();
-    *key = key_numbers(lit);
-    memory::keep(
-        number, after, longs, counts, reals, marks, line, keys, queue,
-    );
-    number
+    match set.process_out(samples) {
+        Ok(filled) => {
+            *key = key_numbers(filled.key);
+            memory::store(filled.set, longs, counts, reals, marks, line, keys, queue);
+            0
+        }
+        Err(refusal) => {
+            *key = key_numbers(None);
+            u8::from(refusal)
+        }
+    }
 }
 
 #[unsafe(no_mangle)]
@@ -230,9 +234,8 @@ pub extern "C" fn gibbonplate_ring_in(
 {
     let set = memory::load(longs, counts, reals, marks, line, keys, queue);
     let rung = set.ring_number();
-    *ring = rung.ring;
-    let refusal = rung.refusal;
-    refusal.number()
+    *ring = rung.unwrap_or(0);
+    refusal::answer_number(&rung)
 }
 
 #[unsafe(no_mangle)]
@@ -251,12 +254,18 @@ pub extern "C" fn gibbonplate_cue_in(
     ensures { CueCall (memory longs.now counts.now reals.now marks.now line.now keys.now queue.now) position sample.new key.new result }
 {
     let set = memory::load(longs, counts, reals, marks, line, keys, queue);
-    let cued = cue::cue(set, position);
-    let lit = cued.key;
-    *sample = cued.sample;
-    *key = key_numbers(lit);
-    let refusal = cued.refusal;
-    refusal.number()
+    match cue::cue(set, position) {
+        Ok(cued) => {
+            *sample = cued.sample;
+            *key = key_numbers(cued.key);
+            0
+        }
+        Err(refusal) => {
+            *sample = 0;
+            *key = key_numbers(None);
+            u8::from(refusal)
+        }
+    }
 }
 
 fn letter(command: bool) -> u8

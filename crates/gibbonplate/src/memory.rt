@@ -2,7 +2,7 @@
 ghost use Rattle.std.specs.Prelude.{◌≡◌, true, false};
 ghost use Rattle.set.specs.Sound.{sound};
 ghost use Rattle.set.specs.Set.{fresh_set};
-ghost use Rattle.gibbonplate.specs.Memory.{memory, stored, holds_set, too_many_bits, plain_in, processor_in, sending_in, set_in, loaded, kept};
+ghost use Rattle.gibbonplate.specs.Memory.{memory, stored, holds_set, too_many_bits, plain_in, processor_in, sending_in, set_in, loaded};
 
 use crate::plain;
 use crate::plain::PlainStage;
@@ -276,23 +276,4 @@ pub fn store(
     line.copy_from_slice(&memory.line);
     keys.copy_from_slice(&memory.keys);
     queue.copy_from_slice(&memory.queue);
-}
-
-// Lays the set into memory after a call that was not declined.
-pub fn keep(
-    number: u8,
-    set: Set,
-    longs: &mut [u64; 6],
-    counts: &mut [u32; 4],
-    reals: &mut [f64; 11],
-    marks: &mut [u8; MARKS],
-    line: &mut [u8; 80],
-    keys: &mut [u8; 76],
-    queue: &mut [u8; 256],
-)
-    ensures { memory longs.new counts.new reals.new marks.new line.new keys.new queue.new ≡ kept number set (memory longs.old counts.old reals.old marks.old line.old keys.old queue.old) }
-{
-    if number == 0 {
-        store(set, longs, counts, reals, marks, line, keys, queue);
-    }
 }

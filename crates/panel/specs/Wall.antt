@@ -13,19 +13,17 @@ use Rattle.set.specs.declared.Made.{Made}
 use Rattle.set.specs.declared.Typed.{Typed}
 use Rattle.set.specs.declared.TypedAll.{TypedAll}
 use Rattle.set.specs.declared.Lapsed.{Lapsed}
-use Rattle.set.specs.declared.Forced.{Forced}
 use Rattle.set.specs.declared.Filled.{Filled}
-use Rattle.set.specs.declared.Queued.{Queued}
-use Rattle.set.specs.Refusals.{refusal_number, either, if_accepted}
-use Rattle.set.specs.Set.{made, typed, lapsed, forced, fill, byte_queued}
+use Rattle.refusal.specs.declared.Refusal.{Refusal}
+use Rattle.refusal.specs.Refusal.{answer_number}
+use Rattle.set.specs.Refusals.{either, told}
+use Rattle.set.specs.Set.{made, typed, lapsed, forced, fill, byte_queued, set_typed, reply_typed, sent_typed, set_lapsed, reply_lapsed, set_filled, key_filled, set_left}
 use Rattle.set.specs.String.{typed_all}
 use Rattle.cue.specs.declared.Cued.{Cued}
-use Rattle.cue.specs.Cue.{cue_refusal_number, cued}
+use Rattle.cue.specs.Cue.{cued, sample_cued, key_cued}
 use Rattle.deframe.specs.declared.Deframer.{Deframer}
 use Rattle.deframe.specs.declared.Deframer.TheVariants.{Idle}
 use Rattle.deframe.specs.declared.Reading.{Reading}
-use Rattle.refusal.specs.declared.Refusal.{Refusal}
-use Rattle.refusal.specs.Refusal.{answer_number}
 use Rattle.deframe.specs.Read.{Read, marks_of, read_of, stopped}
 use Rattle.deframe.specs.Unframe.{unframe_of}
 use Rattle.report.specs.declared.Report.{Report}
@@ -56,27 +54,30 @@ nothing_shown s = shown_of s 0 reply.None (second.Sent 0) false
 
 -- the set's answers: creation, forced data and a fill have no reply, and a typed byte alone sends
 abbrev pub made_shown : Made → Shown
-made_shown a = shown_of a.set (refusal_number a.refusal) reply.None second.Made true
+made_shown a = shown_of a.set (answer_number a.checked) reply.None second.Made true
 
-abbrev pub typed_shown : Typed → Shown
-typed_shown a = shown_of a.set (refusal_number a.refusal) a.reply (second.Sent a.sent) true
+-- a call on the set s: a declined one leaves it, and has no reply, no key and zeros
+abbrev pub typed_shown : Set → Result Typed Refusal → Shown
+typed_shown s a = shown_of (set_typed s a) (answer_number a) (reply_typed a) (second.Sent (sent_typed a)) true
 
-abbrev pub lapsed_shown : Lapsed → Shown
-lapsed_shown a = shown_of a.set (refusal_number a.refusal) a.reply (second.Sent 0) true
+abbrev pub lapsed_shown : Set → Result Lapsed Refusal → Shown
+lapsed_shown s a = shown_of (set_lapsed s a) (answer_number a) (reply_lapsed a) (second.Sent 0) true
 
-abbrev pub forced_shown : Forced → Shown
-forced_shown a = shown_of a.set (refusal_number a.refusal) reply.None (second.Sent 0) true
+abbrev pub forced_shown : Set → Result Set Refusal → Shown
+forced_shown s a = shown_of (set_left s a) (answer_number a) reply.None (second.Sent 0) true
 
-abbrev pub filled_shown : ℕ → Filled → Shown
-filled_shown length a = shown_of a.set (refusal_number a.refusal) reply.None (second.Filled length a.key) true
+abbrev pub filled_shown : Set → ℕ → Result Filled Refusal → Shown
+filled_shown s length a = shown_of (set_filled s a) (answer_number a) reply.None (second.Filled length (key_filled a)) true
 
 -- a cue leaves the set
-abbrev pub cued_shown : Set → Cued → Shown
-cued_shown s a = shown_of s (cue_refusal_number a.refusal) reply.None (second.Cued a.sample a.key) true
+abbrev pub cued_shown : Set → Result Cued Refusal → Shown
+cued_shown s a = shown_of s (answer_number a) reply.None (second.Cued (sample_cued a) (key_cued a)) true
 
 -- a string has no codes of its own: those of its n bytes, and S12, fill three places each, where it is not declined
-abbrev pub string_shown : ℕ → TypedAll → Shown
-string_shown n a = shown_of a.set (refusal_number a.refusal) reply.None (second.String a.sent (if_accepted a.refusal (3 * n) 0)) true
+abbrev pub string_shown : Set → ℕ → Result TypedAll Refusal → Shown
+string_shown s n a =
+    shown_of (told (λ (t : TypedAll). t.set) s a) (answer_number a) reply.None
+    (second.String (told (λ (t : TypedAll). t.sent) 0 a) (told (λ (t : TypedAll). 3 * n) 0 a)) true
 
 -- the reader leaves the set, and is not declined
 abbrev pub bits_shown : Set → Reading → Shown
@@ -92,8 +93,8 @@ abbrev pub lit_shown : Set → Shown
 lit_shown s = shown_of s 0 reply.None second.Lit true
 
 -- 02, E10: a byte that is queued has no reply, and sends nothing into the outbox
-abbrev pub queued_shown : Queued → Shown
-queued_shown a = shown_of a.set (refusal_number a.refusal) reply.None (second.Sent 0) true
+abbrev pub queued_shown : Set → Result Set Refusal → Shown
+queued_shown s a = shown_of (set_left s a) (answer_number a) reply.None (second.Sent 0) true
 
 -- a call that asks for more room than there is counts as another line: no line that is read does
 abbrev pub if_room : Bool → Set → Shown → Shown
@@ -104,18 +105,18 @@ if_room false s shown = nothing_shown s
 -- outbox of so many bytes, so many codes and so many samples, with the string that is kept, and with what the reader made of it
 abbrev pub shown_after : (bytes places samples : ℕ) (kept : List ℕ) (read : Reading) → Set → Call → Shown
 shown_after bytes places samples kept read s (call.Rate rate) = made_shown (made rate)
-shown_after bytes places samples kept read s (call.Typed byte carrier outbox) = if_room (leb outbox bytes) s (typed_shown (typed s byte carrier outbox))
-shown_after bytes places samples kept read s (call.Lapse ns carrier) = lapsed_shown (lapsed s ns carrier)
-shown_after bytes places samples kept read s (call.Fill n) = if_room (leb n samples) s (filled_shown n (fill s n))
-shown_after bytes places samples kept read s call.ForcedData = forced_shown (forced s)
+shown_after bytes places samples kept read s (call.Typed byte carrier outbox) = if_room (leb outbox bytes) s (typed_shown s (typed s byte carrier outbox))
+shown_after bytes places samples kept read s (call.Lapse ns carrier) = lapsed_shown s (lapsed s ns carrier)
+shown_after bytes places samples kept read s (call.Fill n) = if_room (leb n samples) s (filled_shown s n (fill s n))
+shown_after bytes places samples kept read s call.ForcedData = forced_shown s (forced s)
 shown_after bytes places samples kept read s (call.Cue position) = cued_shown s (cued s position)
 shown_after bytes places samples kept read s (call.Kept byte) = nothing_shown s
 shown_after bytes places samples kept read s (call.String carrier outbox codes) =
-    if_room (leb outbox bytes && leb codes places) s (string_shown (length kept) (typed_all s kept carrier outbox codes))
+    if_room (leb outbox bytes && leb codes places) s (string_shown s (length kept) (typed_all s kept carrier outbox codes))
 shown_after bytes places samples kept read s (call.Bits room) = bits_shown s read
 shown_after bytes places samples kept read s call.Frame = frame_shown (eqb (length kept) 10) s (unframe_of (marks_of kept))
 shown_after bytes places samples kept read s call.Key = lit_shown s
-shown_after bytes places samples kept read s (call.Queued byte) = queued_shown (byte_queued s byte)
+shown_after bytes places samples kept read s (call.Queued byte) = queued_shown s (byte_queued s byte)
 shown_after bytes places samples kept read s call.Other = nothing_shown s
 
 -- the reader that is kept: B has it read the string that is kept, with room for so many bytes; R sets it back; no other line changes it

@@ -50,9 +50,9 @@ pub fn put_bits(
 
 // The ring and the bytes sent.
 fn put_sent(answers: &mut Answers, set: Set, outbox: &[u8], sent: usize) {
-    let ring = set.ring_number();
+    let ring = set.ring_number().unwrap_or(0);
     answers.put(b"# ring=");
-    answers.put_decimal(ring.ring as u64);
+    answers.put_decimal(ring as u64);
     answers.put(b" sent=");
     put_front(answers, outbox, sent);
 }

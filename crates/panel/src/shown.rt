@@ -2,7 +2,8 @@
 ghost use Rattle.std.specs.Prelude.{◌≡◌, ◌*◌, ◌≤◌, true, ◌&&◌, leb, eqb, length};
 ghost use Rattle.text.specs.Page.{add_of};
 ghost use Rattle.set.specs.Set.{made, typed, lapsed, forced, fill, byte_queued};
-ghost use Rattle.set.specs.Refusals.{either};
+ghost use Rattle.refusal.specs.Refusal.{number_of};
+ghost use Rattle.reply.specs.declared.Reply.TheVariants as reply;
 ghost use Rattle.set.specs.String.{typed_all};
 ghost use Rattle.deframe.specs.Read.{marks_of};
 ghost use Rattle.deframe.specs.Unframe.{unframe_of};
@@ -97,15 +98,14 @@ pub fn put_line(answers: &mut Answers, shown: Shown)
 fn made(rate: u32) -> Shown
     ensures { result ≡ made_shown (made rate) }
 {
-    let a = Set::new(rate);
-    let set = a.set;
-    let refusal = a.refusal;
-    show(set, refusal.number(), Reply::None, Second::Made, true)
+    let made = Set::new(rate);
+    let number = refusal::answer_number(&made.checked);
+    show(made.set, number, Reply::None, Second::Made, true)
 }
 
 // Into the outbox's first `n` bytes.
 fn typed(set: Set, byte: u8, carrier: bool, n: usize, outbox: &mut [u8]) -> Shown
-    ensures { result ≡ if_room (leb n (length outbox.old)) set (typed_shown (typed set byte carrier n)) }
+    ensures { result ≡ if_room (leb n (length outbox.old)) set (typed_shown set (typed set byte carrier n)) }
 {
     if n > outbox.len() {
         return nothing(set);
@@ -114,38 +114,35 @@ fn typed(set: Set, byte: u8, carrier: bool, n: usize, outbox: &mut [u8]) -> Show
 }
 
 fn feed(set: Set, byte: u8, carrier: bool, outbox: &mut [u8]) -> Shown
-    ensures { result ≡ typed_shown (typed set byte carrier (length outbox.old)) }
+    ensures { result ≡ typed_shown set (typed set byte carrier (length outbox.old)) }
 {
-    let a = set.feed(byte, carrier, outbox);
-    let next = a.set;
-    let refusal = a.refusal;
-    let reply = a.reply;
-    let sent = a.sent;
-    show(next, refusal.number(), reply, Second::Sent(sent), true)
+    match set.feed(byte, carrier, outbox) {
+        Ok(typed) => show(typed.set, 0, typed.reply, Second::Sent(typed.sent), true),
+        Err(refusal) => declined(set, refusal, Second::Sent(0)),
+    }
 }
 
 fn lapsed(set: Set, ns: u64, carrier: bool) -> Shown
-    ensures { result ≡ lapsed_shown (lapsed set ns carrier) }
+    ensures { result ≡ lapsed_shown set (lapsed set ns carrier) }
 {
-    let a = set.advance_time(ns, carrier);
-    let next = a.set;
-    let refusal = a.refusal;
-    let reply = a.reply;
-    show(next, refusal.number(), reply, Second::Sent(0), true)
+    match set.advance_time(ns, carrier) {
+        Ok(lapsed) => show(lapsed.set, 0, lapsed.reply, Second::Sent(0), true),
+        Err(refusal) => declined(set, refusal, Second::Sent(0)),
+    }
 }
 
 fn forced(set: Set) -> Shown
-    ensures { result ≡ forced_shown (forced set) }
+    ensures { result ≡ forced_shown set (forced set) }
 {
-    let a = set.force_data_mode();
-    let next = a.set;
-    let refusal = a.refusal;
-    show(next, refusal.number(), Reply::None, Second::Sent(0), true)
+    match set.force_data_mode() {
+        Ok(forced) => show(forced, 0, Reply::None, Second::Sent(0), true),
+        Err(refusal) => declined(set, refusal, Second::Sent(0)),
+    }
 }
 
 // The first `n` samples.
 fn filled(set: Set, n: usize, samples: &mut [f32]) -> Shown
-    ensures { result ≡ if_room (leb n (length samples.old)) set (filled_shown n (fill set n)) }
+    ensures { result ≡ if_room (leb n (length samples.old)) set (filled_shown set n (fill set n)) }
 {
     if n > samples.len() {
         return nothing(set);
@@ -154,39 +151,39 @@ fn filled(set: Set, n: usize, samples: &mut [f32]) -> Shown
 }
 
 fn fill(set: Set, samples: &mut [f32]) -> Shown
-    ensures { result ≡ filled_shown (length samples.old) (fill set (length samples.old)) }
+    ensures { result ≡ filled_shown set (length samples.old) (fill set (length samples.old)) }
 {
     // A value that no call writes shows which samples a refused fill leaves alone.
     samples.fill(1.23);
     let n = samples.len();
-    let a = set.process_out(samples);
-    let next = a.set;
-    let refusal = a.refusal;
-    let key = a.key;
-    show(
-        next,
-        refusal.number(),
-        Reply::None,
-        Second::Filled { n, key },
-        true,
-    )
+    match set.process_out(samples) {
+        Ok(filled) => {
+            let key = filled.key;
+            show(filled.set, 0, Reply::None, Second::Filled { n, key }, true)
+        }
+        Err(refusal) => {
+            let key = None;
+            declined(set, refusal, Second::Filled { n, key })
+        }
+    }
 }
 
 // The cue leaves the set as it was.
 fn cued(set: Set, position: u8) -> Shown
     ensures { result ≡ cued_shown set (cued set position) }
 {
-    let a = cue::cue(set, position as u32);
-    let refusal = a.refusal;
-    let sample = a.sample;
-    let key = a.key;
-    show(
-        set,
-        refusal.number(),
-        Reply::None,
-        Second::Cued { sample, key },
-        true,
-    )
+    match cue::cue(set, position as u32) {
+        Ok(cued) => {
+            let sample = cued.sample;
+            let key = cued.key;
+            show(set, 0, Reply::None, Second::Cued { sample, key }, true)
+        }
+        Err(refusal) => {
+            let sample = 0;
+            let key = None;
+            declined(set, refusal, Second::Cued { sample, key })
+        }
+    }
 }
 
 // Into the outbox's first `n` bytes and the code buffer's first `m`.
@@ -199,7 +196,7 @@ fn typed_all(
     outbox: &mut [u8],
     codes: &mut [u8],
 ) -> Shown
-    ensures { result ≡ if_room (leb n (length outbox.old) && leb m (length codes.old)) set (string_shown (length string.now) (typed_all set string.now carrier n m)) }
+    ensures { result ≡ if_room (leb n (length outbox.old) && leb m (length codes.old)) set (string_shown set (length string.now) (typed_all set string.now carrier n m)) }
 {
     if n > outbox.len() {
         return nothing(set);
@@ -210,32 +207,28 @@ fn typed_all(
     feed_all(set, string, carrier, &mut outbox[..n], &mut codes[..m])
 }
 
+// Three places of `codes` a byte. A string that was accepted has at most 256.
 fn feed_all(set: Set, string: &[u8], carrier: bool, outbox: &mut [u8], codes: &mut [u8]) -> Shown
-    ensures { result ≡ string_shown (length string.now) (typed_all set string.now carrier (length outbox.old) (length codes.old)) }
+    ensures { result ≡ string_shown set (length string.now) (typed_all set string.now carrier (length outbox.old) (length codes.old)) }
 {
-    let a = set.feed_all(string, carrier, outbox, codes);
-    let next = a.set;
-    let refusal = a.refusal;
-    let sent = a.sent;
-    let places = used(refusal.accepted(), string);
-    show(
-        next,
-        refusal.number(),
-        Reply::None,
-        Second::String { sent, places },
-        true,
-    )
-}
-
-// Three places a byte. A string that was accepted has at most 256.
-fn used(accepted: bool, string: &[u8]) -> usize
-    requires { accepted ≡ true → length string.now ≤ 256 }
-    ensures { result ≡ either accepted (3 * length string.now) 0 }
-{
-    if accepted {
-        return 3 * string.len();
+    match set.feed_all(string, carrier, outbox, codes) {
+        Ok(all) => {
+            let sent = all.sent;
+            let places = 3 * string.len();
+            show(
+                all.set,
+                0,
+                Reply::None,
+                Second::String { sent, places },
+                true,
+            )
+        }
+        Err(refusal) => {
+            let sent = 0;
+            let places = 0;
+            declined(set, refusal, Second::String { sent, places })
+        }
     }
-    0
 }
 
 // The reader leaves the set as it was.
@@ -278,12 +271,19 @@ fn lit(set: Set) -> Shown
 
 // It sends nothing now: the byte is heard once the line is up.
 fn queued(set: Set, byte: u8) -> Shown
-    ensures { result ≡ queued_shown (byte_queued set byte) }
+    ensures { result ≡ queued_shown set (byte_queued set byte) }
 {
-    let a = set.queue_byte(byte);
-    let next = a.set;
-    let refusal = a.refusal;
-    show(next, refusal.number(), Reply::None, Second::Sent(0), true)
+    match set.queue_byte(byte) {
+        Ok(queued) => show(queued, 0, Reply::None, Second::Sent(0), true),
+        Err(refusal) => declined(set, refusal, Second::Sent(0)),
+    }
+}
+
+// A call that is declined leaves the set as it was.
+fn declined(set: Set, refusal: Refusal, second: Second) -> Shown
+    ensures { result ≡ shown_of set (number_of refusal) reply.None second true }
+{
+    show(set, u8::from(refusal), Reply::None, second, true)
 }
 
 fn nothing(set: Set) -> Shown

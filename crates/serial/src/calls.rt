@@ -1,11 +1,13 @@
 // A line's call on the chip, and its answer on the page.
 ghost use Rattle.std.specs.Prelude.{◌≡◌, [], length, take};
+ghost use Rattle.refusal.specs.Refusal.{number_of};
 ghost use Rattle.uart.specs.Chip as uart;
 ghost use Rattle.serial.specs.Answers.{told, lent_of, start_told, read_told, write_told, lapse_told, fill_told, chip_by, page_by};
 
 use crate::lines::Asked;
 use crate::page;
 use console::stream::Answers;
+use refusal::Refusal;
 use uart::Chip;
 
 // Answers the chip after the line.
@@ -34,26 +36,28 @@ fn start(rate: u32, answers: &mut Answers) -> Chip
 {
     let a = Chip::new(rate);
     let chip = a.chip;
-    let refusal = a.refusal;
-    page::put_told(answers, chip, refusal.number(), 0, &[]);
+    page::put_told(answers, chip, refusal::answer_number(&a.checked), 0, &[]);
     chip
 }
 
 fn read(chip: Chip, address: u8, answers: &mut Answers) -> Chip
-    ensures chip_value { result ≡ (uart.read chip address).chip }
-    ensures page_after { answers.new ≡ read_told answers.old (uart.read chip address) }
+    ensures chip_value { result ≡ uart.chip_read chip (uart.read chip address) }
+    ensures page_after { answers.new ≡ read_told answers.old chip (uart.read chip address) }
 {
-    let a = chip.read(address);
-    let next = a.chip;
-    let refusal = a.refusal;
-    page::put_told(answers, next, refusal.number(), a.value, &[]);
-    next
+    match chip.read(address) {
+        Ok(read) => {
+            let next = read.chip;
+            page::put_told(answers, next, 0, read.value, &[]);
+            next
+        }
+        Err(refusal) => declined(chip, refusal, answers),
+    }
 }
 
 // Into the first `n` bytes of an outbox.
 fn write(chip: Chip, address: u8, value: u8, carrier: bool, n: usize, answers: &mut Answers) -> Chip
-    ensures chip_value { result ≡ (uart.write chip address value carrier (length (lent_of n))).chip }
-    ensures page_after { answers.new ≡ write_told answers.old (uart.write chip address value carrier (length (lent_of n))) (uart.outbox chip address value (lent_of n)) }
+    ensures chip_value { result ≡ uart.chip_written chip (uart.write chip address value carrier (length (lent_of n))) }
+    ensures page_after { answers.new ≡ write_told answers.old chip (uart.write chip address value carrier (length (lent_of n))) (uart.outbox chip address value (lent_of n)) }
 {
     let mut outbox = [0u8; 16];
     write_lent(
@@ -74,37 +78,54 @@ fn write_lent(
     outbox: &mut [u8],
     answers: &mut Answers,
 ) -> Chip
-    ensures chip_value { result ≡ (uart.write chip address value carrier (length outbox.old)).chip }
-    ensures page_after { answers.new ≡ write_told answers.old (uart.write chip address value carrier (length outbox.old)) (uart.outbox chip address value outbox.old) }
+    ensures chip_value { result ≡ uart.chip_written chip (uart.write chip address value carrier (length outbox.old)) }
+    ensures page_after { answers.new ≡ write_told answers.old chip (uart.write chip address value carrier (length outbox.old)) (uart.outbox chip address value outbox.old) }
 {
-    let a = chip.write(address, value, carrier, outbox);
-    let next = a.chip;
-    let refusal = a.refusal;
-    let sent = &outbox[..a.sent.min(outbox.len())];
-    page::put_told(answers, next, refusal.number(), 0, sent);
-    next
+    match chip.write(address, value, carrier, outbox) {
+        Ok(written) => {
+            let next = written.chip;
+            let sent = &outbox[..written.sent.min(outbox.len())];
+            page::put_told(answers, next, 0, 0, sent);
+            next
+        }
+        Err(refusal) => declined(chip, refusal, answers),
+    }
 }
 
 fn lapse(chip: Chip, ns: u64, carrier: bool, answers: &mut Answers) -> Chip
-    ensures chip_value { result ≡ (uart.lapsed chip ns carrier).chip }
-    ensures page_after { answers.new ≡ lapse_told answers.old (uart.lapsed chip ns carrier) }
+    ensures chip_value { result ≡ uart.chip_left chip (uart.lapsed chip ns carrier) }
+    ensures page_after { answers.new ≡ lapse_told answers.old chip (uart.lapsed chip ns carrier) }
 {
-    let a = chip.lapse(ns, carrier);
-    let next = a.chip;
-    let refusal = a.refusal;
-    page::put_told(answers, next, refusal.number(), 0, &[]);
-    next
+    match chip.lapse(ns, carrier) {
+        Ok(next) => {
+            page::put_told(answers, next, 0, 0, &[]);
+            next
+        }
+        Err(refusal) => declined(chip, refusal, answers),
+    }
 }
 
 // The first `n` samples, or all where there are no more.
 fn fill(chip: Chip, n: usize, samples: &mut [f32], answers: &mut Answers) -> Chip
-    ensures chip_value { result ≡ (uart.filled chip (length (take n samples.old))).chip }
-    ensures page_after { answers.new ≡ fill_told answers.old (uart.filled chip (length (take n samples.old))) }
+    ensures chip_value { result ≡ uart.chip_filled chip (uart.filled chip (length (take n samples.old))) }
+    ensures page_after { answers.new ≡ fill_told answers.old chip (uart.filled chip (length (take n samples.old))) }
 {
     let count = n.min(samples.len());
-    let a = chip.fill(&mut samples[..count]);
-    let next = a.chip;
-    let refusal = a.refusal;
-    page::put_told(answers, next, refusal.number(), 0, &[]);
-    next
+    match chip.fill(&mut samples[..count]) {
+        Ok(filled) => {
+            let next = filled.chip;
+            page::put_told(answers, next, 0, 0, &[]);
+            next
+        }
+        Err(refusal) => declined(chip, refusal, answers),
+    }
+}
+
+// A call that is declined leaves the chip as it was, and reads and sends nothing.
+fn declined(chip: Chip, refusal: Refusal, answers: &mut Answers) -> Chip
+    ensures chip_value { result ≡ chip }
+    ensures page_after { answers.new ≡ told answers.old chip (number_of refusal) 0 [] }
+{
+    page::put_told(answers, chip, u8::from(refusal), 0, &[]);
+    chip
 }

@@ -20,7 +20,8 @@ use Rattle.session.specs.declared.SessionState.TheVariants.{Connected}
 use Rattle.session.specs.Session.{idle}
 use Rattle.set.specs.declared.Set.{Set}
 use Rattle.set.specs.Sound.{sound}
-use Rattle.set.specs.Refusals.{refusal_number, accepted}
+use Rattle.set.specs.Refusals.{accepted}
+use Rattle.refusal.specs.Refusal.{answer_number}
 use Rattle.set.specs.Set.{fresh_set, moved, creation_cause, made, typing_cause, lapse_cause, forced_cause, fill_cause, queuing_cause, ring_cause}
 use Rattle.set.specs.String.{string_cause}
 use Rattle.set.proofs.Ranges.{ranges, in-ranges}
@@ -53,7 +54,7 @@ waits-sound n few =
     })
 
 -- 1, 7999: a fresh set at 8,000
-pub rate-7999 : (refusal_number (creation_cause 7999) ≡ 1) × ((made 7999).set ≡ fresh_set 8000)
+pub rate-7999 : (answer_number (creation_cause 7999) ≡ 1) × ((made 7999).set ≡ fresh_set 8000)
 unfolding made creation_cause rate_ok accepted
 rate-7999 = (refl, refl)
 
@@ -63,13 +64,13 @@ unfolding sound sound_state state_ok digits_ok all_keys rate_ok idle processor.s
 unsound-81 = refl
 
 pub record Declined6 (s : Set) : Type 0 where
-  pub typing : (n : ℕ) → refusal_number (typing_cause s n) ≡ 6
-  pub time : refusal_number (lapse_cause s) ≡ 6
-  pub forcing : refusal_number (forced_cause s) ≡ 6
-  pub filling : (b : ℕ) → refusal_number (fill_cause s b) ≡ 6
-  pub queuing : refusal_number (queuing_cause s) ≡ 6
-  pub ring : refusal_number (ring_cause s) ≡ 6
-  pub string : (n room places : ℕ) → refusal_number (string_cause s n room places) ≡ 6
+  pub typing : (n : ℕ) → answer_number (typing_cause s n) ≡ 6
+  pub time : answer_number (lapse_cause s) ≡ 6
+  pub forcing : answer_number (forced_cause s) ≡ 6
+  pub filling : (b : ℕ) → answer_number (fill_cause s b) ≡ 6
+  pub queuing : answer_number (queuing_cause s) ≡ 6
+  pub ring : answer_number (ring_cause s) ≡ 6
+  pub string : (n room places : ℕ) → answer_number (string_cause s n room places) ≡ 6
 
 unsound-declined : (s : Set) → sound s ≡ false → Declined6 s
 unfolding typing_cause lapse_cause forced_cause fill_cause queuing_cause ring_cause string_cause
@@ -91,21 +92,21 @@ pub mark-79 : Declined6 marked79
 mark-79 = unsound-declined marked79 unsound-marked79
 
 -- 2, 3 bytes
-pub outbox-3 : refusal_number (typing_cause (fresh_set 8000) 3) ≡ 2
+pub outbox-3 : answer_number (typing_cause (fresh_set 8000) 3) ≡ 2
 unfolding typing_cause
 outbox-3 = rw sound-8000
 
 -- 3, 65,537; 02, E10: in Connected too, and there a fill of length 1 is taken
-pub samples-65537 : refusal_number (fill_cause (fresh_set 8000) 65537) ≡ 3
+pub samples-65537 : answer_number (fill_cause (fresh_set 8000) 65537) ≡ 3
 unfolding fill_cause
 samples-65537 = rw sound-8000
 
-pub connected-fills : (refusal_number (fill_cause (waits 0 0) 1) ≡ 0) × (refusal_number (fill_cause (waits 0 0) 65537) ≡ 3)
+pub connected-fills : (answer_number (fill_cause (waits 0 0) 1) ≡ 0) × (answer_number (fill_cause (waits 0 0) 65537) ≡ 3)
 unfolding fill_cause
 connected-fills = (rw (waits-sound 0 zero-le), rw (waits-sound 0 zero-le))
 
 -- 02, E10: 12, 256 bytes waiting; a byte more is taken while 255 wait
-pub waiting-256 : (refusal_number (queuing_cause (waits 256 0)) ≡ 12) × (refusal_number (queuing_cause (waits 255 0)) ≡ 0)
+pub waiting-256 : (answer_number (queuing_cause (waits 256 0)) ≡ 12) × (answer_number (queuing_cause (waits 255 0)) ≡ 0)
 unfolding queuing_cause
 waiting-256 = (rw (waits-sound 256 (lit≤ tt)), rw (waits-sound 255 (lit≤ tt)))
 
@@ -131,11 +132,11 @@ pub bits-11 : Declined6 (waits 0 11)
 bits-11 = unsound-declined (waits 0 11) unsound-11
 
 -- 02, E3: 256 bytes with just their room, and no byte with none; 8, 257 bytes, before 9; 9, a byte of outbox or a code too few
-pub string-edges : (refusal_number (string_cause (fresh_set 8000) 256 1024 768) ≡ 0)
-    × (refusal_number (string_cause (fresh_set 8000) 0 0 0) ≡ 0)
-    × (refusal_number (string_cause (fresh_set 8000) 257 1028 771) ≡ 8)
-    × (refusal_number (string_cause (fresh_set 8000) 257 0 0) ≡ 8)
-    × (refusal_number (string_cause (fresh_set 8000) 256 1023 768) ≡ 9)
-    × (refusal_number (string_cause (fresh_set 8000) 256 1024 767) ≡ 9)
+pub string-edges : (answer_number (string_cause (fresh_set 8000) 256 1024 768) ≡ 0)
+    × (answer_number (string_cause (fresh_set 8000) 0 0 0) ≡ 0)
+    × (answer_number (string_cause (fresh_set 8000) 257 1028 771) ≡ 8)
+    × (answer_number (string_cause (fresh_set 8000) 257 0 0) ≡ 8)
+    × (answer_number (string_cause (fresh_set 8000) 256 1023 768) ≡ 9)
+    × (answer_number (string_cause (fresh_set 8000) 256 1024 767) ≡ 9)
 unfolding string_cause
 string-edges = (rw sound-8000, rw sound-8000, rw sound-8000, rw sound-8000, rw sound-8000, rw sound-8000)

@@ -10,8 +10,11 @@ use lib.Dec.{leb, ltb, eqb}
 use lib.Ieee.{Float}
 use lib.ListN.{length}
 use borrow.Author.Tests.{ltb-false, eqb-true, eqb-false}
+use Rattle.std.specs.Prelude.{Result, Ok, Err, Option, Some, None}
+use Rattle.refusal.specs.declared.Refusal.{Refusal}
+use Rattle.refusal.specs.Refusal as refusal
+use Rattle.refusal.specs.Refusal.{answer_number}
 use Rattle.keys.specs.Keys.{held, digits_of}
-use Rattle.std.specs.Prelude.{Option, None}
 use Rattle.keys.specs.declared.Key.{Key}
 use Rattle.keys.proofs.Line.{digits-whole, padded-front}
 use Rattle.stage.specs.declared.Stage.{Stage}
@@ -36,7 +39,6 @@ use Rattle.sender.specs.declared.Sending.{Sending}
 use Rattle.sender.specs.Sender.{queued, emptied}
 use Rattle.sender.specs.Wave as wave
 use Rattle.at.specs.declared.AtProcessor.{AtProcessor}
-use Rattle.std.specs.Prelude.{Option, Some, None}
 use Rattle.at.specs.declared.Control.{Control}
 use Rattle.at.specs.declared.Control.TheVariants.{Dial, Answer, Hangup}
 use Rattle.at.specs.Processor as processor
@@ -47,12 +49,13 @@ use Rattle.session.specs.declared.SessionState.TheVariants.{Idle, Dialling, Answ
 use Rattle.session.specs.Session as session
 use Rattle.session.specs.Session.{state_number, idle, answering, dialling, digits_held, connects, shown_state, shown_number, showing, filled, written, key_after}
 use Rattle.set.specs.declared.Set.{Set}
-use Rattle.set.specs.declared.Refusal.{Refusal}
-use Rattle.set.specs.declared.Refusal.TheVariants.{Accepted}
-use Rattle.set.specs.Refusals.{refusal_number, cause_of_typing, cause_of_fill, cause_of_queuing, accepted, either, if_accepted}
+use Rattle.set.specs.declared.Typed.{Typed}
+use Rattle.set.specs.declared.Lapsed.{Lapsed}
+use Rattle.set.specs.declared.Filled.{Filled}
+use Rattle.set.specs.Refusals.{Checked, cause_of_typing, cause_of_fill, cause_of_queuing, accepted, if_accepted, answered, checked, told}
 use Rattle.set.specs.Sound.{sound}
 use Rattle.control.specs.Control.{heard_in, heard, controlled}
-use Rattle.set.specs.Set.{moved, sending_for, typing_cause, byte_taken, typed, lapse_cause, lapsed, forced_cause, forced, is_up_in, is_up, raised_if, filled_set, written_if, fill_cause, fill, buffer, queuing_cause, byte_queued}
+use Rattle.set.specs.Set.{moved, sending_for, typing_cause, byte_typed, typed, lapse_cause, lapsed, forced_cause, forced, is_up_in, is_up, raised_if, filled_set, written_if, fill_cause, samples_filled, fill, buffer, queuing_cause, byte_queued, set_typed, set_lapsed, set_filled, key_filled, set_left}
 use Rattle.set.specs.Book.{typing, time, forcing, filling, queuing, Book, stage_of_sample, key_of_sample, fed_by, lapsed_by, applied, shown_by, state_if, shown_if, after_fill, filled_in, Entry, declined, asks, fills, queues, unless_declined, entry_of, key_by, key_of_entry, number_of, next_book}
 use Rattle.set.proofs.Ranges.{ranges, in-ranges}
 use Rattle.set.proofs.Soundness.{after-sound, few-typed, byte-sound, time-sound, forced-sound}
@@ -86,16 +89,16 @@ Wrote r k (queues byte) left = Unit {0}
 
 -- a number that is not 6, a sound processor and a line that fits, a buffer that is not too long, or room for a byte
 abbrev pub InLimits : Book → Entry → Type 0
-InLimits k (declined cause) = refusal_number cause ≡ 6 → ⊥
+InLimits k (declined cause) = refusal.number_of cause ≡ 6 → ⊥
 InLimits k (asks control line p) = (length line ≤ 76) × (processor.sound p ≡ true)
 InLimits k (fills b) = b ≤ 65536
 InLimits k (queues byte) = is_full k.sending.queue ≡ false
 
 -- what a call does that comes to the entry
-pub record Effect (r : ℕ) (k : Book) (entry : Entry) (next : Set) (refusal : Refusal) (lights : Option Key) (left : List Float) : Type 0 where
+pub record Effect (r : ℕ) (k : Book) (entry : Entry) (next : Set) (cause : Checked) (lights : Option Key) (left : List Float) : Type 0 where
   pub follows : Follows r (next_book r k entry) next
   pub sound : sound next ≡ true
-  pub number : refusal_number refusal ≡ number_of entry
+  pub number : answer_number cause ≡ number_of entry
   pub key : lights ≡ key_of_entry r k entry
   pub limits : InLimits k entry
   pub wrote : Wrote r k entry left
@@ -136,39 +139,37 @@ module _ (r : ℕ) (k : Book) (s : Set) (f : Follows r k s) where
   unfolding heard
   same-lapse ns carrier = rw (f.processor, f.state)
 
--- ---- by the cause: a declined call changes neither book nor set
-by-cause : (r : ℕ) (k : Book) (s : Set) → Invariant r k s → (cause : Refusal) (entry : Entry) (next : Set) (key lights : Option Key) (left : List Float)
-    → (refusal_number cause ≡ 6 → ⊥)
-    → lights ≡ if_accepted cause key None
-    → (accepted cause ≡ true → Effect r k entry next Accepted key left)
-    → Effect r k (unless_declined cause entry) (if_accepted cause next s) cause lights left
+-- ---- by the cause: a declined call changes neither book nor set, and has no key
+by-cause : (r : ℕ) (k : Book) (s : Set) → Invariant r k s → {X : Type 0} (cause : Checked) (entry : Entry) (answer : X) (set_of : X → Set) (key_of : X → Option Key) (left : List Float)
+    → (answer_number cause ≡ 6 → ⊥)
+    → (accepted cause ≡ true → Effect r k entry (set_of answer) (Ok tt) (key_of answer) left)
+    → Effect r k (unless_declined cause entry) (told set_of s (answered cause answer)) (checked (answered cause answer)) (told key_of None (answered cause answer)) left
 unfolding accepted
-by-cause r k s inv cause entry next key lights left never told taken = go (eqb (refusal_number cause) 0) refl told
-  where
-    go : (t : Bool) → eqb (refusal_number cause) 0 ≡ t → lights ≡ either t key None
-        → Effect r k (either t entry (declined cause)) (either t next s) cause lights left
-    go true e l =
-        let q = taken e in
-        record { follows = q.follows; sound = q.sound; number = eqb-true _ 0 e ∙ q.number; key = l ∙ q.key; limits = q.limits; wrote = q.wrote }
-    go false e l = record { follows = inv.follows; sound = inv.sound; number = refl; key = l; limits = never; wrote = tt }
+by-cause r k s inv (Ok done) entry answer set_of key_of left never taken = taken refl
+by-cause r k s inv (Err cause) entry answer set_of key_of left never taken =
+    record { follows = inv.follows; sound = inv.sound; number = refl; key = refl; limits = never; wrote = tt }
 
 -- a call that has no key has none, accepted or declined
-no_key : (cause : Refusal) → ◌≡◌ {A = Option Key} None (if_accepted cause None None)
-no_key cause = go (accepted cause)
-  where
-    go : (t : Bool) → ◌≡◌ {A = Option Key} None (either t None None)
-    go true = refl
-    go false = refl
+abbrev keyless_of : {X : Type 0} → X → Option Key
+keyless_of answer = None
 
-typing-never-6 : (room : Bool) → refusal_number (cause_of_typing true room) ≡ 6 → ⊥
+no_key : {X : Type 0} (answer : Result X Refusal) → told keyless_of None answer ≡ None
+no_key (Ok answer) = refl
+no_key (Err cause) = refl
+
+keyless : (r : ℕ) (k : Book) (entry : Entry) (next : Set) (cause : Checked) (left : List Float) → {X : Type 0} (answer : Result X Refusal)
+    → Effect r k entry next cause (told keyless_of None answer) left → Effect r k entry next cause None left
+keyless r k entry next cause left answer q = rw (no_key answer) at q
+
+typing-never-6 : (room : Bool) → answer_number (cause_of_typing true room) ≡ 6 → ⊥
 typing-never-6 false e = omega arith
 typing-never-6 true e = omega arith
 
-fill-never-6 : (long : Bool) → refusal_number (cause_of_fill true long) ≡ 6 → ⊥
+fill-never-6 : (long : Bool) → answer_number (cause_of_fill true long) ≡ 6 → ⊥
 fill-never-6 true e = omega arith
 fill-never-6 false e = omega arith
 
-queuing-never-6 : (full : Bool) → refusal_number (cause_of_queuing true full) ≡ 6 → ⊥
+queuing-never-6 : (full : Bool) → answer_number (cause_of_queuing true full) ≡ 6 → ⊥
 queuing-never-6 true e = omega arith
 queuing-never-6 false e = omega arith
 
@@ -177,14 +178,15 @@ module _ (r : ℕ) (k : Book) (s : Set) (inv : Invariant r k s) where
   good = rw inv.follows.processor at (ranges s inv.sound).processor
 
   pub typing-effect : (byte : ℕ) (carrier : Bool) (n : ℕ)
-      → Effect r k (entry_of k (typing byte carrier n)) (typed s byte carrier n).set (typed s byte carrier n).refusal None []
+      → Effect r k (entry_of k (typing byte carrier n)) (set_typed s (typed s byte carrier n)) (checked (typed s byte carrier n)) None []
   unfolding typed typing_cause entry_of
   typing-effect byte carrier n =
       let few = few-typed k.processor good byte (heard_in k.state carrier) n in
+      let cause : Checked = cause_of_typing true (leb 4 n) in
       rw inv.sound
-      (by-cause r k s inv (cause_of_typing true (leb 4 n)) _ (byte_taken s byte carrier n) None None []
+      (keyless r k _ _ _ [] (answered cause (byte_typed s byte carrier n))
+      (by-cause r k s inv cause _ (byte_typed s byte carrier n) (λ (a : Typed). a.set) keyless_of []
       (typing-never-6 (leb 4 n))
-      (no_key (cause_of_typing true (leb 4 n)))
       (λ _. record {
         follows = rw (same-fed r k s inv.follows byte carrier n) (applies r k s inv.follows (fed_by k byte carrier n).control _ _ few);
         sound = byte-sound s inv.sound byte carrier n;
@@ -192,11 +194,11 @@ module _ (r : ℕ) (k : Book) (s : Set) (inv : Invariant r k s) where
         limits = (few, sound-typed k.processor byte (heard_in k.state carrier) n good);
         key = refl;
         wrote = tt;
-      }))
+      })))
 
   pub time-effect : (ns : ℕ) (carrier : Bool)
-      → Effect r k (entry_of k (time ns carrier)) (lapsed s ns carrier).set (lapsed s ns carrier).refusal None []
-  unfolding lapsed lapse_cause entry_of accepted
+      → Effect r k (entry_of k (time ns carrier)) (set_lapsed s (lapsed s ns carrier)) (checked (lapsed s ns carrier)) None []
+  unfolding lapsed lapse_cause entry_of
   time-effect ns carrier =
       rw inv.sound (record {
         follows = rw (same-lapse r k s inv.follows ns carrier) (applies r k s inv.follows (lapsed_by k ns carrier).control [] _ zero-le);
@@ -207,8 +209,8 @@ module _ (r : ℕ) (k : Book) (s : Set) (inv : Invariant r k s) where
         wrote = tt;
       })
 
-  pub forcing-effect : Effect r k (entry_of k forcing) (forced s).set (forced s).refusal None []
-  unfolding forced forced_cause entry_of accepted controlled
+  pub forcing-effect : Effect r k (entry_of k forcing) (set_left s (forced s)) (checked (forced s)) None []
+  unfolding forced forced_cause entry_of controlled
   forcing-effect =
       rw inv.sound (record {
         follows = rw (ap forced_data inv.follows.processor) (applies r k s inv.follows None [] (forced_data k.processor) zero-le);
@@ -362,7 +364,7 @@ module _ (r : ℕ) (p : AtProcessor) (digits : List ℕ) (count shown : ℕ) (x 
 filling-by : (r : ℕ) (p : AtProcessor) (state : SessionState) (digits : List ℕ) (count shown : ℕ) (x : Sending) (s : Set) (b : ℕ) (long : Bool)
     → let book : Book = record { processor = p; state = state; digits = digits; count = count; shown = shown; sending = x } in
     Invariant r book s → ltb 65536 b ≡ long → accepted (cause_of_fill true long) ≡ true
-    → Effect r book (fills b) (filled_set s b) Accepted (key_after s.session b s.rate) (written_if (is_up s.session) s b)
+    → Effect r book (fills b) (filled_set s b) (Ok tt) (key_after s.session b s.rate) (written_if (is_up s.session) s b)
 unfolding accepted state_number filled written key_after
 filling-by r p state digits count shown x s b true inv e allowed = absurd (true≢false (sym allowed))
 filling-by r p Idle digits count shown x s b false inv e allowed =
@@ -422,14 +424,13 @@ filling-by r p Dialling digits count shown x s b false inv e allowed =
     })
 
 pub filling-effect : (r : ℕ) (k : Book) (s : Set) → Invariant r k s → (was : List Float)
-    → Effect r k (entry_of k (filling (length was))) (fill s (length was)).set (fill s (length was)).refusal (fill s (length was)).key (buffer s was)
+    → Effect r k (entry_of k (filling (length was))) (set_filled s (fill s (length was))) (checked (fill s (length was))) (key_filled (fill s (length was))) (buffer s was)
 unfolding fill buffer fill_cause entry_of
 filling-effect r k s inv was =
     let b = length was in
     rw inv.sound
-    (by-cause r k s inv (cause_of_fill true (ltb 65536 b)) (fills b) _ _ _ _
+    (by-cause r k s inv (cause_of_fill true (ltb 65536 b)) (fills b) (samples_filled s b) (λ (a : Filled). a.set) (λ (a : Filled). a.key) _
     (fill-never-6 (ltb 65536 b))
-    refl
     (λ allowed. rw allowed (filling-by r k.processor k.state k.digits k.count k.shown k.sending s b (ltb 65536 b) inv refl allowed)))
 
 -- ---- a byte is queued
@@ -439,7 +440,7 @@ has_room true e = absurd (true≢false (sym e))
 has_room false e = refl
 
 pub queuing-effect : (r : ℕ) (k : Book) (s : Set) → Invariant r k s → (byte : ℕ)
-    → Effect r k (entry_of k (queuing byte)) (byte_queued s byte).set (byte_queued s byte).refusal None []
+    → Effect r k (entry_of k (queuing byte)) (set_left s (byte_queued s byte)) (checked (byte_queued s byte)) None []
 unfolding byte_queued queuing_cause entry_of
 queuing-effect r k s inv byte =
     let f = inv.follows in
@@ -449,9 +450,9 @@ queuing-effect r k s inv byte =
     let longer = ap (λ (x : Sending). queued x byte) f.sending in
     let on = next-sending r (ok r k s inv) k (queues byte) inv.sending in
     rw (inv.sound, same)
-    (by-cause r k s inv (cause_of_queuing true full) (queues byte) (moved s s.processor s.session (queued s.sending byte)) None None []
+    (keyless r k _ _ _ [] (answered (cause_of_queuing true full) (moved s s.processor s.session (queued s.sending byte)))
+    (by-cause r k s inv (cause_of_queuing true full) (queues byte) (moved s s.processor s.session (queued s.sending byte)) (λ (a : Set). a) keyless_of []
     (queuing-never-6 full)
-    (no_key (cause_of_queuing true full))
     (λ allowed. record {
       follows = record { rate = f.rate; processor = f.processor; state = f.state; digits = f.digits; count = f.count; shown = f.shown; stage = f.stage; sending = longer };
       sound = in-ranges _ (record { digits = q.digits; state = q.state; processor = q.processor; count = q.count; shown = q.shown; sending = sending-is-ok r k s inv _ _ longer on });
@@ -459,4 +460,4 @@ queuing-effect r k s inv byte =
       key = refl;
       limits = has_room full allowed;
       wrote = tt;
-    }))
+    })))

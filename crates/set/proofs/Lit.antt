@@ -8,7 +8,8 @@ use contract.Lifetimes.{Lfts}
 use denote.Ref.{MutBor, at_last}
 use lib.Ieee.{Float}
 use lib.ListN.{length}
-use Rattle.std.specs.Prelude.{Option, None}
+use Rattle.std.specs.Prelude.{Result, Option, None}
+use Rattle.refusal.specs.declared.Refusal.{Refusal}
 use Rattle.keys.specs.declared.Key.{Key}
 use Rattle.stage.specs.Stage.{key_of}
 use Rattle.overture.specs.Iteration.{after}
@@ -18,23 +19,24 @@ use Rattle.session.specs.Session.{digits_held, key_in, key_after}
 use Rattle.set.specs.declared.Set.{Set}
 use Rattle.set.specs.declared.Filled.{Filled}
 use Rattle.set.specs.Refusals.{accepted, either}
-use Rattle.set.specs.Set.{fill_cause, fill}
+use Rattle.set.specs.Set.{fill_cause, samples_filled, fill, key_filled}
+use Rattle.set.proofs.Unchanged.{told-if}
 use Rattle.set.proofs.Set.process_out.Reads as process-out
 
 dark-if : (t : Bool) (key : Option Key) → key ≡ None → either t key None ≡ None
 dark-if true key e = e
 dark-if false key e = refl
 
-module _ (s : Set) (κs : Lfts 1) (out : MutBor (List Float)) (left : List Float) (answer : Filled)
+module _ (s : Set) (κs : Lfts 1) (out : MutBor (List Float)) (left : List Float) (answer : Result Filled Refusal)
     (d : process-out.Learnt κs (s, (out, tt)) answer (s, (at_last out left, tt))) where
-  key-is : answer.key ≡ either (accepted (fill_cause s (length out.now))) (key_after s.session (length out.now) s.rate) None
+  key-is : key_filled answer ≡ either (accepted (fill_cause s (length out.now))) (key_after s.session (length out.now) s.rate) None
   unfolding fill
-  key-is = ap (λ (f : Filled). f.key) d.0
+  key-is = ap key_filled d.0 ∙ told-if (fill_cause s (length out.now)) (λ (f : Filled). f.key) None (samples_filled s (length out.now))
 
-  pub declined-dark : accepted (fill_cause s (length out.now)) ≡ false → answer.key ≡ None
+  pub declined-dark : accepted (fill_cause s (length out.now)) ≡ false → key_filled answer ≡ None
   declined-dark declined = rw (key-is, declined)
 
-  pub empty-dark : length out.now ≡ 0 → answer.key ≡ None
+  pub empty-dark : length out.now ≡ 0 → key_filled answer ≡ None
   unfolding key_after
   empty-dark empty = key-is ∙ dark-if (accepted (fill_cause s (length out.now))) _ (rw empty (by_state s.session.state))
     where
@@ -44,7 +46,7 @@ module _ (s : Set) (κs : Lfts 1) (out : MutBor (List Float)) (left : List Float
       by_state Answering = refl
       by_state Connected = refl
 
-  pub undialled-dark : (s.session.state ≡ Dialling → ⊥) → answer.key ≡ None
+  pub undialled-dark : (s.session.state ≡ Dialling → ⊥) → key_filled answer ≡ None
   unfolding key_after
   undialled-dark other = key-is ∙ dark-if (accepted (fill_cause s (length out.now))) _ (by_state s.session.state other)
     where
@@ -55,6 +57,6 @@ module _ (s : Set) (κs : Lfts 1) (out : MutBor (List Float)) (left : List Float
       by_state Connected h = refl
 
   pub last-lit : (b : ℕ) → length out.now ≡ suc b → accepted (fill_cause s (length out.now)) ≡ true → s.session.state ≡ Dialling
-      → answer.key ≡ key_of (after b s.session.stage (digits_held s.session) s.rate) (digits_held s.session)
+      → key_filled answer ≡ key_of (after b s.session.stage (digits_held s.session) s.rate) (digits_held s.session)
   unfolding key_after
   last-lit b some taken dialled = rw (key-is, taken, dialled, some)

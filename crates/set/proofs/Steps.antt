@@ -7,12 +7,12 @@ use mathlib.Core.Bool.{Bool}
 use mathlib.Core.List.{List}
 use lib.Ieee.{Float}
 use lib.ListN.{length}
+use Rattle.std.specs.Prelude.{Result}
+use Rattle.refusal.specs.declared.Refusal.{Refusal}
 use Rattle.set.specs.declared.Set.{Set}
 use Rattle.set.specs.declared.Typed.{Typed}
 use Rattle.set.specs.declared.Lapsed.{Lapsed}
-use Rattle.set.specs.declared.Forced.{Forced}
 use Rattle.set.specs.declared.Filled.{Filled}
-use Rattle.set.specs.declared.Queued.{Queued}
 use Rattle.set.specs.Refusals.{Declined}
 use Rattle.set.specs.Set.{typed, lapsed, forced, fill, buffer, byte_queued}
 use Rattle.set.specs.Book.{Book, entry_of}
@@ -26,8 +26,8 @@ pub record Stepped (r : ℕ) (k : Book) (s : Set) (e : Event) : Type 0 where
   pub unchanged : Declined e.refusal → Unchanged s e
 
 module _ (r : ℕ) (k : Book) (s : Set) (inv : Invariant r k s) where
-  pub feed-steps : (byte : ℕ) (carrier : Bool) (was left : List ℕ) (answer : Typed) → IsTyped s byte carrier was left answer
-      → Stepped r k s (typed_event byte carrier was left answer)
+  pub feed-steps : (byte : ℕ) (carrier : Bool) (was left : List ℕ) (answer : Result Typed Refusal) → IsTyped s byte carrier was left answer
+      → Stepped r k s (typed_event s byte carrier was left answer)
   feed-steps byte carrier was left answer d =
       let told : answer ≡ typed s byte carrier (length was) = d.0 in
       record {
@@ -35,18 +35,18 @@ module _ (r : ℕ) (k : Book) (s : Set) (inv : Invariant r k s) where
         unchanged = (typed-answers s byte carrier was left answer d).unchanged;
       }
 
-  pub advance-time-steps : (ns : ℕ) (carrier : Bool) (answer : Lapsed) → IsLapsed s ns carrier answer
-      → Stepped r k s (lapsed_event ns carrier answer)
+  pub advance-time-steps : (ns : ℕ) (carrier : Bool) (answer : Result Lapsed Refusal) → IsLapsed s ns carrier answer
+      → Stepped r k s (lapsed_event s ns carrier answer)
   advance-time-steps ns carrier answer d =
       let told : answer ≡ lapsed s ns carrier = d in
       record { effect = rw told (time-effect r k s inv ns carrier); unchanged = (advance-time-answers s ns carrier answer d).unchanged }
 
-  pub force-data-mode-steps : (answer : Forced) → IsForced s answer → Stepped r k s (forced_event answer)
+  pub force-data-mode-steps : (answer : Result Set Refusal) → IsForced s answer → Stepped r k s (forced_event s answer)
   force-data-mode-steps answer d =
       let told : answer ≡ forced s = d in
       record { effect = rw told (forcing-effect r k s inv); unchanged = (force-data-mode-answers s answer d).unchanged }
 
-  pub process-out-steps : (was left : List Float) (answer : Filled) → IsFilled s was left answer → Stepped r k s (filled_event was left answer)
+  pub process-out-steps : (was left : List Float) (answer : Result Filled Refusal) → IsFilled s was left answer → Stepped r k s (filled_event s was left answer)
   process-out-steps was left answer d =
       let told : answer ≡ fill s (length was) = d.0 in
       let wrote : left ≡ buffer s was = d.1 in
@@ -55,7 +55,7 @@ module _ (r : ℕ) (k : Book) (s : Set) (inv : Invariant r k s) where
         unchanged = (filled-answers s was left answer d).unchanged;
       }
 
-  pub queue-byte-steps : (byte : ℕ) (answer : Queued) → IsQueued s byte answer → Stepped r k s (queued_event byte answer)
+  pub queue-byte-steps : (byte : ℕ) (answer : Result Set Refusal) → IsQueued s byte answer → Stepped r k s (queued_event s byte answer)
   queue-byte-steps byte answer d =
       let told : answer ≡ byte_queued s byte = d in
       record { effect = rw told (queuing-effect r k s inv byte); unchanged = (queue-byte-answers s byte answer d).unchanged }

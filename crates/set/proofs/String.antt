@@ -9,6 +9,8 @@ use mathlib.Core.List.{List, [], ◌∷◌, ◌++◌, append_assoc, append-nil}
 use lib.ListN.{length, take, drop, set, get_or, length-drop, length-append, length-set, drop_of_length-le}
 use lib.Seq.{length-take-le, take-suc, take_at, drop_at, take_all, drop-drop, drop-cons, set_at}
 use lib.Dec.{ltb}
+use Rattle.std.specs.Prelude.{Result, Ok, Err}
+use Rattle.refusal.specs.declared.Refusal.{Refusal}
 use borrow.Author.Tests.{le-leb, ltb-false}
 use Rattle.ascii.specs.Front.{put}
 use Rattle.reply.specs.Codes.{first_of, second_of}
@@ -18,43 +20,38 @@ use Rattle.at.specs.At.{sent, after_atdt}
 use Rattle.at.proofs.Outbox.{at-most-four, sent-count, sent-first, room-alike}
 use Rattle.control.specs.Control.{heard, controlled}
 use Rattle.set.specs.declared.Set.{Set}
-use Rattle.set.specs.declared.ByteTyped.{ByteTyped}
 use Rattle.set.specs.declared.Typed.{Typed}
-use Rattle.set.specs.declared.Refusal.TheVariants.{Accepted}
-use Rattle.set.specs.Refusals.{cause_of_string, accepted}
+use Rattle.set.specs.Refusals.{Checked, cause_of_string, accepted, checked}
 use Rattle.set.specs.Sound.{sound}
-use Rattle.set.specs.Set.{s12_of, moved, sending_for, typing_cause, byte_typed, typed, outbox}
+use Rattle.set.specs.Set.{s12_of, moved, sending_for, typing_cause, byte_typed, typed, outbox, set_typed, reply_typed, sent_typed}
 use Rattle.set.specs.String.{four, set_by, put_by, sent_by, codes_by, string_cause, at_front}
 use Rattle.set.proofs.Ranges.{ranges}
 use Rattle.set.proofs.Soundness.{byte-sound}
 
 -- ---- a byte on a sound set
-abbrev taking : ByteTyped → Typed
-taking t = record { set = t.set; refusal = Accepted; reply = t.reply; sent = t.sent }
-
 module _ (s : Set) (ok : sound s ≡ true) (byte : ℕ) (carrier : Bool) where
   good : processor.sound s.processor ≡ true
   good = (ranges s ok).processor
 
-  abbrev typed_of : Fed → ByteTyped
+  abbrev typed_of : Fed → Typed
   typed_of fed = record { set = moved s fed.processor (controlled fed.control s.session (after_atdt fed) s.rate) (sending_for fed.control s.sending); reply = fed.reply; sent = fed.sent }
 
   pub taken-alike : (n : ℕ) → 4 ≤ n → byte_typed s byte carrier n ≡ byte_typed s byte carrier 4
   taken-alike n l = ap typed_of (room-alike s.processor good byte (heard s.session carrier) n l)
 
   -- with an outbox of four bytes or more it is taken
-  typed-taken : (n : ℕ) → 4 ≤ n → typed s byte carrier n ≡ taking (byte_typed s byte carrier n)
-  unfolding typed typing_cause accepted
+  typed-taken : (n : ℕ) → 4 ≤ n → typed s byte carrier n ≡ Ok (byte_typed s byte carrier n)
+  unfolding typed typing_cause
   typed-taken n l = rw (ok, le-leb 4 n l)
 
   -- and the length changes nothing
   pub typed-alike : (n : ℕ) → 4 ≤ n → typed s byte carrier n ≡ typed s byte carrier 4
-  typed-alike n l = typed-taken n l ∙ ap taking (taken-alike n l) ∙ sym (typed-taken 4 (omega arith))
+  typed-alike n l = typed-taken n l ∙ ap Ok (taken-alike n l) ∙ sym (typed-taken 4 (omega arith))
 
-  typed-four : typed s byte carrier 4 ≡ taking (byte_typed s byte carrier 4)
+  typed-four : typed s byte carrier 4 ≡ Ok (byte_typed s byte carrier 4)
   typed-four = typed-taken 4 (omega arith)
 
-  pub typed-sound : sound (typed s byte carrier 4).set ≡ true
+  pub typed-sound : sound (set_typed s (typed s byte carrier 4)) ≡ true
   typed-sound = rw typed-four (byte-sound s ok byte carrier 4)
 
   count-sent : (byte_typed s byte carrier 4).sent ≡ length (sent s.processor byte)
@@ -77,37 +74,37 @@ module _ (carrier : Bool) where
   pub set_by-sound : (s : Set) (bytes : List ℕ) → sound s ≡ true → sound (set_by s bytes carrier) ≡ true
   unfolding set_by
   set_by-sound s [] ok = ok
-  set_by-sound s (byte ∷ bytes) ok = set_by-sound (typed s byte carrier 4).set bytes (typed-sound s ok byte carrier)
+  set_by-sound s (byte ∷ bytes) ok = set_by-sound (set_typed s (typed s byte carrier 4)) bytes (typed-sound s ok byte carrier)
 
   -- nothing is declined half way
-  pub never-half-way : (s : Set) (bytes : List ℕ) (byte : ℕ) → sound s ≡ true → (typed (set_by s bytes carrier) byte carrier 4).refusal ≡ Accepted
-  never-half-way s bytes byte ok = ap (λ (t : Typed). t.refusal) (typed-four (set_by s bytes carrier) (set_by-sound s bytes ok) byte carrier)
+  pub never-half-way : (s : Set) (bytes : List ℕ) (byte : ℕ) → sound s ≡ true → checked (typed (set_by s bytes carrier) byte carrier 4) ≡ Ok tt
+  never-half-way s bytes byte ok = ap checked (typed-four (set_by s bytes carrier) (set_by-sound s bytes ok) byte carrier)
 
-  set_by-more : (s : Set) (bytes : List ℕ) (byte : ℕ) → set_by s (bytes ++ (byte ∷ [])) carrier ≡ (typed (set_by s bytes carrier) byte carrier 4).set
+  set_by-more : (s : Set) (bytes : List ℕ) (byte : ℕ) → set_by s (bytes ++ (byte ∷ [])) carrier ≡ set_typed (set_by s bytes carrier) (typed (set_by s bytes carrier) byte carrier 4)
   unfolding set_by
   set_by-more s [] byte = refl
-  set_by-more s (b ∷ bytes) byte = set_by-more (typed s b carrier 4).set bytes byte
+  set_by-more s (b ∷ bytes) byte = set_by-more (set_typed s (typed s b carrier 4)) bytes byte
 
   sent_by-more : (s : Set) (bytes : List ℕ) (byte : ℕ)
       → sent_by s (bytes ++ (byte ∷ [])) carrier ≡ sent_by s bytes carrier ++ put_by (set_by s bytes carrier) byte carrier
   unfolding set_by sent_by
   sent_by-more s [] byte = append-nil (put_by s byte carrier)
-  sent_by-more s (b ∷ bytes) byte = rw (sent_by-more (typed s b carrier 4).set bytes byte) (sym (append_assoc (put_by s b carrier) _ _))
+  sent_by-more s (b ∷ bytes) byte = rw (sent_by-more (set_typed s (typed s b carrier 4)) bytes byte) (sym (append_assoc (put_by s b carrier) _ _))
 
-  abbrev codes_of : Typed → List ℕ
-  codes_of t = first_of t.reply ∷ second_of t.reply ∷ s12_of t.set ∷ []
+  abbrev codes_of : Set → Result Typed Refusal → List ℕ
+  codes_of s t = first_of (reply_typed t) ∷ second_of (reply_typed t) ∷ s12_of (set_typed s t) ∷ []
 
   codes_by-more : (s : Set) (bytes : List ℕ) (byte : ℕ)
-      → codes_by s (bytes ++ (byte ∷ [])) carrier ≡ codes_by s bytes carrier ++ codes_of (typed (set_by s bytes carrier) byte carrier 4)
+      → codes_by s (bytes ++ (byte ∷ [])) carrier ≡ codes_by s bytes carrier ++ codes_of (set_by s bytes carrier) (typed (set_by s bytes carrier) byte carrier 4)
   unfolding set_by codes_by
   codes_by-more s [] byte = refl
   codes_by-more s (b ∷ bytes) byte =
-      ap (λ (rest : List ℕ). first_of (typed s b carrier 4).reply ∷ second_of (typed s b carrier 4).reply ∷ s12_of (typed s b carrier 4).set ∷ rest) (codes_by-more (typed s b carrier 4).set bytes byte)
+      ap (λ (rest : List ℕ). first_of (reply_typed (typed s b carrier 4)) ∷ second_of (reply_typed (typed s b carrier 4)) ∷ s12_of (set_typed s (typed s b carrier 4)) ∷ rest) (codes_by-more (set_typed s (typed s b carrier 4)) bytes byte)
 
   pub codes-length : (s : Set) (bytes : List ℕ) → length (codes_by s bytes carrier) ≡ 3 * length bytes
   unfolding codes_by
   codes-length s [] = refl
-  codes-length s (b ∷ bytes) = omega (arith, codes-length (typed s b carrier 4).set bytes)
+  codes-length s (b ∷ bytes) = omega (arith, codes-length (set_typed s (typed s b carrier 4)) bytes)
 
 -- ---- what an accepted string has: a sound set, at most 256 bytes, and room for all that they may send and answer
 pub record Fits (s : Set) (n room places : ℕ) : Type 0 where
@@ -194,17 +191,17 @@ module _ (s₀ : Set) (bytes : List ℕ) (carrier : Bool) (out₀ codes₀ : Lis
         ∙ ap (λ (x : Set). sent_by s₀ (take i bytes) carrier ++ put_by x byte carrier) (sym T.set)
         ∙ ap (λ (l : List ℕ). sent_by s₀ (take i bytes) carrier ++ l) (put-sent s T.sound byte carrier)
 
-    set_all : set_by s₀ (take (i + 1) bytes) carrier ≡ (typed s byte carrier 4).set
+    set_all : set_by s₀ (take (i + 1) bytes) carrier ≡ (set_typed s (typed s byte carrier 4))
     set_all =
         ap (λ (l : List ℕ). set_by s₀ l carrier) one_more
         ∙ set_by-more carrier s₀ (take i bytes) byte
-        ∙ ap (λ (x : Set). (typed x byte carrier 4).set) (sym T.set)
+        ∙ ap (λ (x : Set). (set_typed x (typed x byte carrier 4))) (sym T.set)
 
-    codes_all_lem : codes_by s₀ (take (i + 1) bytes) carrier ≡ codes_by s₀ (take i bytes) carrier ++ codes_of carrier (typed s byte carrier 4)
+    codes_all_lem : codes_by s₀ (take (i + 1) bytes) carrier ≡ codes_by s₀ (take i bytes) carrier ++ codes_of carrier s (typed s byte carrier 4)
     codes_all_lem =
         ap (λ (l : List ℕ). codes_by s₀ l carrier) one_more
         ∙ codes_by-more carrier s₀ (take i bytes) byte
-        ∙ ap (λ (x : Set). codes_by s₀ (take i bytes) carrier ++ codes_of carrier (typed x byte carrier 4)) (sym T.set)
+        ∙ ap (λ (x : Set). codes_by s₀ (take i bytes) carrier ++ codes_of carrier x (typed x byte carrier 4)) (sym T.set)
 
     codes-so-far : length (codes_by s₀ (take i bytes) carrier) ≡ 3 * i
     codes-so-far = codes-length carrier s₀ (take i bytes) ∙ ap (λ (n : ℕ). 3 * n) (length-take-le i bytes T.within)
@@ -222,7 +219,7 @@ module _ (s₀ : Set) (bytes : List ℕ) (carrier : Bool) (out₀ codes₀ : Lis
         next : (i : ℕ) → suc (suc (suc (3 * i))) ≡ 3 * (i + 1)
         next i = omega arith
 
-    pub typing-again : (t : ByteTyped) (ys : List ℕ) (f g h : ℕ)
+    pub typing-again : (t : Typed) (ys : List ℕ) (f g h : ℕ)
         → t ≡ byte_typed s byte carrier (length part)
         → ys ≡ put here part
         → f ≡ first_of t.reply
@@ -231,8 +228,8 @@ module _ (s₀ : Set) (bytes : List ℕ) (carrier : Bool) (out₀ codes₀ : Lis
         → Typing s₀ bytes carrier out₀ codes₀ t.set (take at out ++ (ys ++ drop (length out - at) (drop at out))) (set (set (set codes (3 * i) f) (3 * i + 1) g) (3 * i + 2) h) (at + t.sent) (i + 1)
     typing-again t ys f g h e w ef eg eh =
         let told : t ≡ byte_typed s byte carrier 4 = e ∙ taken-alike s T.sound byte carrier (length part) enough in
-        let single : taking t ≡ typed s byte carrier 4 = ap taking told ∙ sym (typed-four s T.sound byte carrier) in
-        let count : t.sent ≡ length here = ap (λ (x : ByteTyped). x.sent) told ∙ count-sent s T.sound byte carrier in
+        let single : Ok t ≡ typed s byte carrier 4 = ap Ok told ∙ sym (typed-four s T.sound byte carrier) in
+        let count : t.sent ≡ length here = ap (λ (x : Typed). x.sent) told ∙ count-sent s T.sound byte carrier in
         let few : length here ≤ 4 = sent-few s T.sound byte carrier in
         let taken : take at out ≡ sent_by s₀ (take i bytes) carrier = ap (take at) T.wrote ∙ take_at (sent_by s₀ (take i bytes) carrier) (drop at out₀) at (sym T.count) in
         let none : drop (length out - at) (drop at out) ≡ [] = drop_of_length-le (drop at out) {i = length out - at} (omega (arith, length-drop at out)) in
@@ -241,11 +238,11 @@ module _ (s₀ : Set) (bytes : List ℕ) (carrier : Bool) (out₀ codes₀ : Lis
         let whole : take at out ++ (ys ++ drop (length out - at) (drop at out)) ≡ sent_by s₀ (take (i + 1) bytes) carrier ++ drop (at + t.sent) out₀ =
         rw (taken, none, wrote, append-nil, drop-drop, sent-all, append_assoc, count) in
         let now-coded : codes_by s₀ (take i bytes) carrier ++ (f ∷ g ∷ h ∷ []) ≡ codes_by s₀ (take (i + 1) bytes) carrier =
-        rw (ef, eg, eh) (ap (λ (x : Typed). codes_by s₀ (take i bytes) carrier ++ codes_of carrier x) single ∙ sym codes_all_lem) in
+        rw (ef, eg, eh) (ap (λ (x : Result Typed Refusal). codes_by s₀ (take i bytes) carrier ++ codes_of carrier s x) single ∙ sym codes_all_lem) in
         let counted : at + t.sent ≡ length (sent_by s₀ (take (i + 1) bytes) carrier) = rw (sent-all, length-append, count) (ap (λ (n : ℕ). n + length here) T.count) in
         record {
           within = omega arith;
-          set = ap (λ (x : Typed). x.set) single ∙ sym set_all;
+          set = ap (set_typed s) single ∙ sym set_all;
           sound = rw told (byte-sound s T.sound byte carrier 4);
           count = counted;
           few = omega (arith, T.few, count, few);

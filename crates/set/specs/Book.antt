@@ -1,5 +1,5 @@
 -- 01, "The list of demand 3": the book, kept from the rate r, the calls and their arguments alone. It never reads the set.
-use Rattle.std.specs.Prelude.{ℕ, zero, suc, ◌+◌, Bool, true, false, List, [], leb, ltb, eqb, Float, length, Option, Some, None}
+use Rattle.std.specs.Prelude.{ℕ, zero, suc, ◌+◌, Bool, true, false, List, [], Ok, Err, leb, ltb, eqb, Float, length, Option, Some, None}
 use Rattle.keys.specs.Keys.{digits_of}
 use Rattle.keys.specs.declared.Key.{Key}
 use Rattle.schedule.specs.Length.{total}
@@ -19,8 +19,9 @@ use Rattle.queue.specs.Queue.{is_full}
 use Rattle.sender.specs.declared.Sending.{Sending}
 use Rattle.sender.specs.Sender.{fresh_sending, queued, emptied}
 use Rattle.sender.specs.Wave as wave
-use Rattle.set.specs.declared.Refusal.{Refusal}
-use Rattle.set.specs.Refusals.{refusal_number, cause_of_typing, cause_of_fill, cause_of_queuing, if_accepted}
+use Rattle.refusal.specs.declared.Refusal.{Refusal}
+use Rattle.refusal.specs.Refusal as refusal
+use Rattle.set.specs.Refusals.{cause_of_typing, cause_of_fill, cause_of_queuing, Checked}
 use Rattle.set.specs.Set.{raised_if}
 
 -- for typing, byte, carrier flag and outbox length; for time, nanoseconds and carrier flag; for a fill, buffer length; for forced data, none; 02, E10:
@@ -116,8 +117,9 @@ pub data Entry : Type 0 where
   fills : (b : ℕ) → Entry
   queues : (byte : ℕ) → Entry
 
-abbrev pub unless_declined : Refusal → Entry → Entry
-unless_declined cause entry = if_accepted cause entry (declined cause)
+abbrev pub unless_declined : Checked → Entry → Entry
+unless_declined (Ok done) entry = entry
+unless_declined (Err cause) entry = declined cause
 
 -- by the causes of 01's table, but that 6 cannot come
 unfoldable pub entry_of : Book → Call → Entry
@@ -148,7 +150,7 @@ key_of_entry r k (queues byte) = None
 
 -- the number that it is declined with; 0 for none
 abbrev pub number_of : Entry → ℕ
-number_of (declined cause) = refusal_number cause
+number_of (declined cause) = refusal.number_of cause
 number_of (asks control line p) = 0
 number_of (fills b) = 0
 number_of (queues byte) = 0

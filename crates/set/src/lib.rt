@@ -7,7 +7,7 @@ ghost use Rattle.std.specs.Prelude.{◌≡◌, ◌*◌, ◌≤◌, true, length}
 ghost use Rattle.ascii.specs.Front.{put};
 ghost use Rattle.at.specs.At.{sent};
 ghost use Rattle.at.specs.Processor.{command_mode};
-ghost use Rattle.set.specs.Refusals.{refusal_number, cause_of_sound, accepted};
+ghost use Rattle.set.specs.Refusals.{cause_of_sound};
 ghost use Rattle.set.specs.Sound.{sound};
 ghost use Rattle.set.specs.Set.{s12_of, fresh_set, creation_cause, made, typing_cause, byte_typed, typed, outbox, sending_for, lapsed, forced, is_up_in, raised_if, fill_cause, fill, buffer, queuing_cause, byte_queued, rung};
 ghost use Rattle.set.specs.String.{set_by, sent_by, codes_by, at_front, string_cause, typed_all, outbox_all, codes_all};
@@ -15,6 +15,7 @@ ghost use Rattle.set.specs.String.{set_by, sent_by, codes_by, at_front, string_c
 use at::{AtProcessor, Control};
 use command::Line;
 use keys::{Digits, Key};
+use refusal::Refusal;
 use reply::Reply;
 use sender::Sending;
 use session::{Session, SessionState};
@@ -29,19 +30,6 @@ const MAX_STRING: usize = 256;
 
 const MAX_SAMPLES: u32 = 5_000_000;
 
-// Why a call is declined, if it is.
-#[derive(Clone, Copy)]
-pub enum Refusal {
-    Accepted,
-    Rate,
-    Outbox,
-    Length,
-    Unsound,
-    StringLength,
-    StringRoom,
-    QueueFull,
-}
-
 #[derive(Clone, Copy)]
 pub struct Set {
     pub rate: u32,
@@ -50,40 +38,25 @@ pub struct Set {
     pub sending: Sending,
 }
 
+// A set is handed out whatever the rate: at 8,000 where the rate is declined.
 #[derive(Clone, Copy)]
 pub struct Made {
     pub set: Set,
-    pub refusal: Refusal,
+    pub checked: Result<(), Refusal>,
 }
 
+// A call that is declined hands no set out: the caller's own is as it was.
 #[derive(Clone, Copy)]
 pub struct Typed {
     pub set: Set,
-    pub refusal: Refusal,
     pub reply: Reply,
     // bytes put into the outbox
     pub sent: usize,
 }
 
-// What a byte comes to on a set that takes it.
-#[derive(Clone, Copy)]
-struct ByteTyped {
-    set: Set,
-    reply: Reply,
-    sent: usize,
-}
-
-// What the bytes of a string come to.
-#[derive(Clone, Copy)]
-struct BytesTyped {
-    set: Set,
-    sent: usize,
-}
-
 #[derive(Clone, Copy)]
 pub struct TypedAll {
     pub set: Set,
-    pub refusal: Refusal,
     // bytes put into the outbox
     pub sent: usize,
 }
@@ -91,58 +64,14 @@ pub struct TypedAll {
 #[derive(Clone, Copy)]
 pub struct Lapsed {
     pub set: Set,
-    pub refusal: Refusal,
     pub reply: Reply,
-}
-
-#[derive(Clone, Copy)]
-pub struct Forced {
-    pub set: Set,
-    pub refusal: Refusal,
 }
 
 #[derive(Clone, Copy)]
 pub struct Filled {
     pub set: Set,
-    pub refusal: Refusal,
     // that of the last sample
     pub key: Option<Key>,
-}
-
-#[derive(Clone, Copy)]
-pub struct Queued {
-    pub set: Set,
-    pub refusal: Refusal,
-}
-
-#[derive(Clone, Copy)]
-pub struct Rung {
-    pub refusal: Refusal,
-    pub ring: u8,
-}
-
-impl Refusal {
-    // 01's number. 4, which a full line had, and 5, which a fill in Connected had, are given no more.
-    pub fn number(self) -> u8
-        ensures { result ≡ refusal_number self }
-    {
-        match self {
-            Refusal::Accepted => 0,
-            Refusal::Rate => 1,
-            Refusal::Outbox => 2,
-            Refusal::Length => 3,
-            Refusal::Unsound => 6,
-            Refusal::StringLength => 8,
-            Refusal::StringRoom => 9,
-            Refusal::QueueFull => 12,
-        }
-    }
-
-    pub fn accepted(self) -> bool
-        ensures { result ≡ accepted self }
-    {
-        self.number() == 0
-    }
 }
 
 fn fresh(rate: u32) -> Set
@@ -187,27 +116,25 @@ fn raised_if(up: bool, sending: Sending, rate: u32) -> Sending
 }
 
 // Creation is declined outside the rate's limits.
-fn creation_cause(rate: u32) -> Refusal
+#[tactic(auto, unfolding(crate::specs::Set::creation_cause))]
+fn creation_cause(rate: u32) -> Result<(), Refusal>
     ensures { result ≡ creation_cause rate }
 {
     if soundness::rate_ok(rate) {
-        return Refusal::Accepted;
+        return Ok(());
     }
-    Refusal::Rate
+    Err(Refusal::Rate)
 }
 
 impl Set {
     // A fresh set: Idle, with the fresh AT processor.
+    #[tactic(auto, unfolding(crate::specs::Set::made, crate::specs::Refusals::accepted))]
     pub fn new(rate: u32) -> Made
         ensures { result ≡ made rate }
     {
-        let refusal = creation_cause(rate);
-        if refusal.accepted() {
-            let set = fresh(rate);
-            return Made { set, refusal };
-        }
-        let set = fresh(8000);
-        Made { set, refusal }
+        let checked = creation_cause(rate);
+        let set = fresh(if checked.is_ok() { rate } else { 8000 });
+        Made { set, checked }
     }
 
     // 01's list. Every call but the plain readers asks it first.
@@ -215,71 +142,50 @@ impl Set {
         ensures { result ≡ sound self }
     {
         let session = self.session;
-        let processor = self.processor;
         let digits = session.digits;
-        let keys = digits.keys;
-        let len = digits.len;
-        let stage = session.stage;
-        let sending = self.sending;
-        if len > 76 {
+        if digits.len > 76 {
             return false;
         }
-        let from: usize = 0;
-        soundness::sound_state(stage, &keys[from..len], self.rate)
-            & (processor.sound()
+        soundness::sound_state(session.stage, &digits.keys[..digits.len], self.rate)
+            & (self.processor.sound()
                 & ((session.m <= MAX_SAMPLES)
-                    & ((session.shown <= 9) & soundness::sending::sending_ok(sending, self.rate))))
+                    & ((session.shown <= 9)
+                        & soundness::sending::sending_ok(self.sending, self.rate))))
     }
 
     // The cause of a call that is declined for an unsound set alone.
-    fn sound_cause(self) -> Refusal
+    fn sound_cause(self) -> Result<(), Refusal>
         ensures { result ≡ cause_of_sound (sound self) }
     {
         if self.sound() {
-            return Refusal::Accepted;
+            return Ok(());
         }
-        Refusal::Unsound
+        Err(Refusal::Unsound)
     }
 
-    fn typing_cause(self, room: usize) -> Refusal
+    #[tactic(auto, unfolding(crate::specs::Set::typing_cause))]
+    fn typing_cause(self, room: usize) -> Result<(), Refusal>
         ensures { result ≡ typing_cause self room }
     {
-        if self.sound() {
-            if room < MIN_OUTBOX {
-                return Refusal::Outbox;
-            }
-            return Refusal::Accepted;
+        self.sound_cause()?;
+        if room < MIN_OUTBOX {
+            return Err(Refusal::Outbox);
         }
-        Refusal::Unsound
+        Ok(())
     }
 
     // One byte typed at the panel.
-    pub fn feed(self, byte: u8, carrier: bool, out: &mut [u8]) -> Typed
+    #[tactic(auto, unfolding(crate::specs::Set::typed, crate::specs::Set::outbox, crate::specs::Refusals::accepted))]
+    pub fn feed(self, byte: u8, carrier: bool, out: &mut [u8]) -> Result<Typed, Refusal>
         ensures value { result ≡ typed self byte carrier (length out.old) }
         ensures out_after { out.new ≡ outbox self byte out.old }
     {
-        let refusal = self.typing_cause(out.len());
-        if refusal.accepted() {
-            let t = self.take_byte(byte, carrier, out);
-            let set = t.set;
-            let reply = t.reply;
-            return Typed {
-                set,
-                refusal,
-                reply,
-                sent: t.sent,
-            };
-        }
-        Typed {
-            set: self,
-            refusal,
-            reply: Reply::None,
-            sent: 0,
-        }
+        self.typing_cause(out.len())?;
+        Ok(self.take_byte(byte, carrier, out))
     }
 
     // The byte alone, with no check: `feed_all` checks once for all of its bytes.
-    fn take_byte(self, byte: u8, carrier: bool, out: &mut [u8]) -> ByteTyped
+    fn take_byte(self, byte: u8, carrier: bool, out: &mut [u8]) -> Typed
         ensures value { result ≡ byte_typed self byte carrier (length out.old) }
         ensures out_after { out.new ≡ put (sent self.processor byte) out.old }
     {
@@ -295,7 +201,7 @@ impl Set {
         let moved = control::apply(asked, session, line, self.rate);
         let waiting = self.sending;
         let sending = sending_for(asked, waiting);
-        ByteTyped {
+        Typed {
             set: Set {
                 processor: next,
                 session: moved,
@@ -307,46 +213,39 @@ impl Set {
         }
     }
 
-    fn string_cause(self, n: usize, room: usize, places: usize) -> Refusal
+    #[tactic(auto, unfolding(crate::specs::String::string_cause))]
+    fn string_cause(self, n: usize, room: usize, places: usize) -> Result<(), Refusal>
         ensures { result ≡ string_cause self n room places }
     {
-        if self.sound() {
-            if n > MAX_STRING {
-                return Refusal::StringLength;
-            }
-            if (room < 4 * n) | (places < 3 * n) {
-                return Refusal::StringRoom;
-            }
-            return Refusal::Accepted;
+        self.sound_cause()?;
+        if n > MAX_STRING {
+            return Err(Refusal::StringLength);
         }
-        Refusal::Unsound
+        if (room < 4 * n) | (places < 3 * n) {
+            return Err(Refusal::StringRoom);
+        }
+        Ok(())
     }
 
     // A whole string typed at the panel, as its bytes typed singly. Byte i has three places of `codes`,
     // from 3i: its two codes, 0 for none, and the S12 after it.
-    pub fn feed_all(self, bytes: &[u8], carrier: bool, out: &mut [u8], codes: &mut [u8]) -> TypedAll
+    #[tactic(auto, unfolding(crate::specs::String::typed_all, crate::specs::String::outbox_all, crate::specs::String::codes_all, crate::specs::Refusals::accepted))]
+    pub fn feed_all(
+        self,
+        bytes: &[u8],
+        carrier: bool,
+        out: &mut [u8],
+        codes: &mut [u8],
+    ) -> Result<TypedAll, Refusal>
         ensures value { result ≡ typed_all self bytes.now carrier (length out.old) (length codes.old) }
         ensures out_after { out.new ≡ outbox_all self bytes.now carrier out.old (length codes.old) }
         ensures codes_after { codes.new ≡ codes_all self bytes.now carrier (length out.old) codes.old }
     {
-        let refusal = self.string_cause(bytes.len(), out.len(), codes.len());
-        if refusal.accepted() {
-            let t = self.take_bytes(bytes, carrier, out, codes);
-            let set = t.set;
-            return TypedAll {
-                set,
-                refusal,
-                sent: t.sent,
-            };
-        }
-        TypedAll {
-            set: self,
-            refusal,
-            sent: 0,
-        }
+        self.string_cause(bytes.len(), out.len(), codes.len())?;
+        Ok(self.take_bytes(bytes, carrier, out, codes))
     }
 
-    fn take_bytes(self, bytes: &[u8], carrier: bool, out: &mut [u8], codes: &mut [u8]) -> BytesTyped
+    fn take_bytes(self, bytes: &[u8], carrier: bool, out: &mut [u8], codes: &mut [u8]) -> TypedAll
         requires self_value { sound self ≡ true }
         requires bytes_len_bound { length bytes.now ≤ 256 }
         requires bytes_in_bounds { 4 * length bytes.now ≤ length out.old }
@@ -358,9 +257,8 @@ impl Set {
     {
         let mut s = self;
         let mut at: usize = 0;
-        let mut i: usize = 0;
-        while i < bytes.len() {
-            let t = s.take_byte(bytes[i], carrier, &mut out[at..]);
+        for (i, byte) in bytes.iter().enumerate() {
+            let t = s.take_byte(*byte, carrier, &mut out[at..]);
             let reply = t.reply;
             let next = t.set;
             let place = 3 * i;
@@ -369,163 +267,119 @@ impl Set {
             codes[place + 2] = next.s12();
             at += t.sent;
             s = next;
-            i += 1;
         }
-        BytesTyped { set: s, sent: at }
+        TypedAll { set: s, sent: at }
     }
 
     // Time passes, in nanoseconds.
-    pub fn advance_time(self, ns: u64, carrier: bool) -> Lapsed
+    #[tactic(auto, unfolding(crate::specs::Set::lapsed, crate::specs::Set::lapse_cause, control::specs::Control::heard))]
+    pub fn advance_time(self, ns: u64, carrier: bool) -> Result<Lapsed, Refusal>
         ensures { result ≡ lapsed self ns carrier }
     {
+        self.sound_cause()?;
         let processor = self.processor;
         let session = self.session;
         let state = session.state;
-        let refusal = self.sound_cause();
-        if refusal.accepted() {
-            let heard = control::heard_in(state, carrier);
-            let o = processor.advance_time(ns, heard);
-            let next = o.processor;
-            let reply = o.reply;
-            let asked = o.control;
-            let line = Line::new();
-            let moved = control::apply(asked, session, line, self.rate);
-            let waiting = self.sending;
-            let sending = sending_for(asked, waiting);
-            return Lapsed {
-                set: Set {
-                    processor: next,
-                    session: moved,
-                    sending,
-                    ..self
-                },
-                refusal,
-                reply,
-            };
-        }
-        Lapsed {
-            set: self,
-            refusal,
-            reply: Reply::None,
-        }
+        let heard = control::heard_in(state, carrier);
+        let o = processor.advance_time(ns, heard);
+        let next = o.processor;
+        let reply = o.reply;
+        let asked = o.control;
+        let line = Line::new();
+        let moved = control::apply(asked, session, line, self.rate);
+        let waiting = self.sending;
+        let sending = sending_for(asked, waiting);
+        Ok(Lapsed {
+            set: Set {
+                processor: next,
+                session: moved,
+                sending,
+                ..self
+            },
+            reply,
+        })
     }
 
-    pub fn force_data_mode(self) -> Forced
+    #[tactic(auto, unfolding(crate::specs::Set::forced, crate::specs::Set::forced_cause))]
+    pub fn force_data_mode(self) -> Result<Set, Refusal>
         ensures { result ≡ forced self }
     {
-        let processor = self.processor;
-        let refusal = self.sound_cause();
-        if refusal.accepted() {
-            let next = processor.force_data_mode();
-            return Forced {
-                set: Set {
-                    processor: next,
-                    ..self
-                },
-                refusal,
-            };
-        }
-        Forced { set: self, refusal }
+        self.sound_cause()?;
+        let processor = self.processor.force_data_mode();
+        Ok(Set { processor, ..self })
     }
 
-    fn fill_cause(self, b: usize) -> Refusal
+    #[tactic(auto, unfolding(crate::specs::Set::fill_cause))]
+    fn fill_cause(self, b: usize) -> Result<(), Refusal>
         ensures { result ≡ fill_cause self b }
     {
-        if self.sound() {
-            if b > MAX_FILL {
-                return Refusal::Length;
-            }
-            return Refusal::Accepted;
+        self.sound_cause()?;
+        if b > MAX_FILL {
+            return Err(Refusal::Length);
         }
-        Refusal::Unsound
+        Ok(())
     }
 
     // Fills the buffer with what the house hears next.
-    pub fn process_out(self, out: &mut [f32]) -> Filled
+    #[tactic(auto, unfolding(crate::specs::Set::fill, crate::specs::Set::buffer, crate::specs::Refusals::accepted))]
+    pub fn process_out(self, out: &mut [f32]) -> Result<Filled, Refusal>
         ensures value { result ≡ fill self (length out.old) }
         ensures out_after { out.new ≡ buffer self out.old }
     {
+        self.fill_cause(out.len())?;
         let session = self.session;
         let sending = self.sending;
-        let state = session.state;
-        let refusal = self.fill_cause(out.len());
-        if refusal.accepted() {
-            if is_up(state) {
-                let played = sending.fill(out);
-                return Filled {
-                    set: Set {
-                        sending: played,
-                        ..self
-                    },
-                    refusal,
-                    key: None,
-                };
-            }
-            let filled = session.process_out(self.rate, out);
-            let next = filled.session;
-            let key = filled.key;
-            let shown = next.state;
-            let raised = raised_if(is_up(shown), sending, self.rate);
-            return Filled {
+        if is_up(session.state) {
+            let played = sending.fill(out);
+            return Ok(Filled {
                 set: Set {
-                    session: next,
-                    sending: raised,
+                    sending: played,
                     ..self
                 },
-                refusal,
-                key,
-            };
+                key: None,
+            });
         }
-        Filled {
-            set: self,
-            refusal,
-            key: None,
-        }
+        let filled = session.process_out(self.rate, out);
+        let next = filled.session;
+        let raised = raised_if(is_up(next.state), sending, self.rate);
+        Ok(Filled {
+            set: Set {
+                session: next,
+                sending: raised,
+                ..self
+            },
+            key: filled.key,
+        })
     }
 
-    fn queuing_cause(self) -> Refusal
+    #[tactic(auto, unfolding(crate::specs::Set::queuing_cause))]
+    fn queuing_cause(self) -> Result<(), Refusal>
         ensures { result ≡ queuing_cause self }
     {
-        let sending = self.sending;
-        let queue = sending.queue;
-        if self.sound() {
-            if queue.is_full() {
-                return Refusal::QueueFull;
-            }
-            return Refusal::Accepted;
+        self.sound_cause()?;
+        let queue = self.sending.queue;
+        if queue.is_full() {
+            return Err(Refusal::QueueFull);
         }
-        Refusal::Unsound
+        Ok(())
     }
 
     // A byte for the sender, which begins its frame when the line is up and free for it.
-    pub fn queue_byte(self, byte: u8) -> Queued
+    #[tactic(auto, unfolding(crate::specs::Set::byte_queued))]
+    pub fn queue_byte(self, byte: u8) -> Result<Set, Refusal>
         ensures { result ≡ byte_queued self byte }
     {
-        let sending = self.sending;
-        let refusal = self.queuing_cause();
-        if refusal.accepted() {
-            let longer = sending.queue_byte(byte);
-            return Queued {
-                set: Set {
-                    sending: longer,
-                    ..self
-                },
-                refusal,
-            };
-        }
-        Queued { set: self, refusal }
+        self.queuing_cause()?;
+        let sending = self.sending.queue_byte(byte);
+        Ok(Set { sending, ..self })
     }
 
-    pub fn ring_number(self) -> Rung
+    #[tactic(auto, unfolding(crate::specs::Set::rung, crate::specs::Set::ring_cause))]
+    pub fn ring_number(self) -> Result<u8, Refusal>
         ensures { result ≡ rung self }
     {
-        let session = self.session;
-        let refusal = self.sound_cause();
-        if refusal.accepted() {
-            let ring = session.ring_number();
-            return Rung { refusal, ring };
-        }
-        Rung { refusal, ring: 0 }
+        self.sound_cause()?;
+        Ok(self.session.ring_number())
     }
 
     // The plain readers.

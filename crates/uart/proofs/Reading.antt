@@ -13,19 +13,18 @@ use Rattle.session.specs.declared.SessionState.{SessionState}
 use Rattle.session.specs.declared.SessionState.TheVariants.{Idle}
 use Rattle.control.specs.Control.{heard_in}
 use Rattle.set.specs.declared.Typed.{Typed}
-use Rattle.uart.specs.declared.Cause.{Cause}
-use Rattle.uart.specs.declared.Cause.TheVariants.{Address}
+use Rattle.std.specs.Prelude.{Result, Ok, Err}
+use Rattle.refusal.specs.declared.Refusal.{Refusal}
+use Rattle.refusal.specs.declared.Refusal.TheVariants.{Address}
+use Rattle.refusal.specs.Refusal.{number_of}
 use Rattle.uart.specs.declared.Registers.{Registers}
 use Rattle.uart.specs.declared.Chip.{Chip}
 use Rattle.uart.specs.declared.Start.{Start}
 use Rattle.uart.specs.declared.Read.{Read}
 use Rattle.uart.specs.declared.Written.{Written}
-use Rattle.uart.specs.declared.Lapse.{Lapse}
 use Rattle.uart.specs.declared.Fill.{Fill}
-use Rattle.uart.specs.Causes.{cause_number}
 use Rattle.uart.specs.Registers.{reset_registers, identification, line_status, modem_status, settled, with_enable, stored, value_at}
 use Rattle.uart.specs.Chip as chip
-use Rattle.uart.proofs.Cause.number.Reads as number
 use Rattle.uart.proofs.Chip.new.Reads as new
 use Rattle.uart.proofs.Chip.sound.Reads as sound
 use Rattle.uart.proofs.Chip.dcd.Reads as dcd
@@ -38,11 +37,7 @@ use Rattle.uart.proofs.Chip.write.Reads as write
 use Rattle.uart.proofs.Chip.lapse.Reads as lapse
 use Rattle.uart.proofs.Chip.fill.Reads as fill
 
-pub number_is : (cause : Cause) → number.Asked tt (cause, tt) × ((n : ℕ) → number.Learnt tt (cause, tt) n (cause, tt) → n ≡ cause_number cause)
-number_is cause = (tt, λ n d. d)
-
-pub above-7-is-15 : cause_number Address ≡ 15
-unfolding cause_number
+pub above-7-is-15 : number_of Address ≡ 15
 above-7-is-15 = refl
 
 pub starts : (rate : ℕ) → new.Asked tt (rate, tt) × ((a : Start) → new.Learnt tt (rate, tt) a (rate, tt) → a ≡ chip.started rate)
@@ -70,24 +65,24 @@ module _ (c : Chip) where
 
   pub read_is : (address : ℕ)
       → read.Asked tt (c, (address, tt))
-      × ((a : Read) → read.Learnt tt (c, (address, tt)) a (c, (address, tt)) → a ≡ chip.read c address)
+      × ((a : Result Read Refusal) → read.Learnt tt (c, (address, tt)) a (c, (address, tt)) → a ≡ chip.read c address)
   read_is address = (tt, λ a d. d)
 
   pub write-is : (address value : ℕ) (carrier : Bool) (κs : Lfts 1) (out : MutBor (List ℕ))
       → write.Asked κs (c, (address, (value, (carrier, (out, tt)))))
-      × ((left : List ℕ) (a : Written)
+      × ((left : List ℕ) (a : Result Written Refusal)
       → write.Learnt κs (c, (address, (value, (carrier, (out, tt))))) a (c, (address, (value, (carrier, (at_last out left, tt)))))
       → (a ≡ chip.write c address value carrier (length out.now)) × (left ≡ chip.outbox c address value out.now))
   write-is address value carrier κs out = (tt, λ left a d. d)
 
   pub lapse-is : (ns : ℕ) (carrier : Bool)
       → lapse.Asked tt (c, (ns, (carrier, tt)))
-      × ((a : Lapse) → lapse.Learnt tt (c, (ns, (carrier, tt))) a (c, (ns, (carrier, tt))) → a ≡ chip.lapsed c ns carrier)
+      × ((a : Result Chip Refusal) → lapse.Learnt tt (c, (ns, (carrier, tt))) a (c, (ns, (carrier, tt))) → a ≡ chip.lapsed c ns carrier)
   lapse-is ns carrier = (tt, λ a d. d)
 
   pub fill_is : (κs : Lfts 1) (out : MutBor (List Float))
       → fill.Asked κs (c, (out, tt))
-      × ((left : List Float) (a : Fill) → fill.Learnt κs (c, (out, tt)) a (c, (at_last out left, tt))
+      × ((left : List Float) (a : Result Fill Refusal) → fill.Learnt κs (c, (out, tt)) a (c, (at_last out left, tt))
       → (a ≡ chip.filled c (length out.now)) × (left ≡ chip.buffer c out.now))
   fill_is κs out = (tt, λ left a d. d)
 
@@ -158,7 +153,7 @@ module _ (g : Registers) where
   delta-lasts before after flag told = rw told
 
 -- "its interrupt is then pending": after every byte that is typed
-pub pending-when-typed : (c : Chip) (carrier : Bool) (t : Typed) → (chip.transmitted_if true c carrier t).chip.registers.pending ≡ true
+pub pending-when-typed : (c : Chip) (carrier : Bool) (t : Typed) → (chip.chip_written c (chip.transmitted c carrier (Ok t))).registers.pending ≡ true
 pending-when-typed c carrier t = refl
 
 -- "Writes to 2, 5 and 6 .. change nothing"

@@ -1,25 +1,24 @@
 -- 02, E13: the chip, and its calls: read, write, lapse, fill. Causes are checked in 02's order; a declined call changes nothing.
-use Rattle.std.specs.Prelude.{ℕ, zero, suc, Bool, true, false, not, ◌&&◌, List, [], ◌∷◌, leb, get_or, Float}
+use Rattle.std.specs.Prelude.{ℕ, zero, suc, Bool, true, false, not, ◌&&◌, List, [], ◌∷◌, leb, get_or, Float, Option, Result, Ok, Err}
 use Rattle.std.specs.declared.option.Option.TheVariants as option
+use Rattle.keys.specs.declared.Key.{Key}
 use Rattle.queue.specs.Queue.{is_empty, oldest, queue_ok}
 use Rattle.reply.specs.declared.Reply.{Reply}
 use Rattle.reply.specs.declared.Reply.TheVariants.{None}
 use Rattle.control.specs.Control.{heard_in}
-use Rattle.set.specs.declared.Refusal.TheVariants.{Accepted, Unsound}
+use Rattle.refusal.specs.declared.Refusal.{Refusal}
+use Rattle.refusal.specs.declared.Refusal.TheVariants.{Unsound, Address}
 use Rattle.set.specs.declared.Set.{Set}
 use Rattle.set.specs.declared.Typed.{Typed}
 use Rattle.set.specs.declared.Lapsed.{Lapsed}
 use Rattle.set.specs.declared.Filled.{Filled}
-use Rattle.set.specs.Refusals.{accepted}
+use Rattle.set.specs.Refusals.{told}
 use Rattle.set.specs.Sound as soundness
 use Rattle.set.specs.Set as set
-use Rattle.uart.specs.declared.Cause.{Cause}
-use Rattle.uart.specs.declared.Cause.TheVariants.{Address, BySet}
 use Rattle.uart.specs.declared.Chip.{Chip}
 use Rattle.uart.specs.declared.Start.{Start}
 use Rattle.uart.specs.declared.Read.{Read}
 use Rattle.uart.specs.declared.Written.{Written}
-use Rattle.uart.specs.declared.Lapse.{Lapse}
 use Rattle.uart.specs.declared.Fill.{Fill}
 use Rattle.uart.specs.Inbox.{text_of_reply, empty_inbox, received, read_out, overrun_read}
 use Rattle.uart.specs.Registers.{reset_registers, identification, pending_after, settled, with_pending, delta_read, stored, value_at}
@@ -29,7 +28,7 @@ abbrev pub fresh : Set → Chip
 fresh s = record { set = s; registers = reset_registers; inbox = empty_inbox }
 
 unfoldable pub started : ℕ → Start
-started r = record { chip = fresh (set.made r).set; refusal = BySet (set.made r).refusal }
+started r = record { chip = fresh (set.made r).set; checked = (set.made r).checked }
 
 -- ---- "More than 256 text bytes waiting is unsound"; and so is a chip whose set is
 unfoldable pub sound : Chip → Bool
@@ -88,49 +87,41 @@ chip_after c address =
     address
     c
 
-abbrev pub read_if : (ok known : Bool) → Chip → ℕ → Read
-read_if false known c address = record { chip = c; refusal = BySet Unsound; value = 0 }
-read_if true false c address = record { chip = c; refusal = Address; value = 0 }
-read_if true true c address = record { chip = chip_after c address; refusal = BySet Accepted; value = value_of c address }
+abbrev pub read_if : (ok known : Bool) → Chip → ℕ → Result Read Refusal
+read_if false known c address = Err Unsound
+read_if true false c address = Err Address
+read_if true true c address = Ok (record { chip = chip_after c address; value = value_of c address })
 
-unfoldable pub read : Chip → ℕ → Read
+unfoldable pub read : Chip → ℕ → Result Read Refusal
 read c address = read_if (sound c) (leb address 7) c address
 
 -- ---- a write: 6, 15; to 0, "a transmitted byte is typed into the set, with a carrier flag and outbox as in any typed call": its causes
-abbrev pub write_declined : Cause → Chip → Written
-write_declined cause c = record { chip = c; refusal = cause; sent = 0 }
-
 -- "the transmit holding register is empty when that call returns; its interrupt is then pending"
 abbrev pub emptied : Chip → Chip
 emptied c = record { set = c.set; registers = with_pending true c.registers; inbox = c.inbox }
 
-abbrev pub transmitted_if : (taken : Bool) → Chip → Bool → Typed → Written
-transmitted_if false c carrier t = write_declined (BySet t.refusal) c
-transmitted_if true c carrier t =
-    record { chip = emptied (moved c t.set t.reply carrier); refusal = BySet Accepted; sent = t.sent }
-
-abbrev pub transmitted : Chip → Bool → Typed → Written
-transmitted c carrier t = transmitted_if (accepted t.refusal) c carrier t
+abbrev pub transmitted : Chip → Bool → Result Typed Refusal → Result Written Refusal
+transmitted c carrier (Ok t) = Ok (record { chip = emptied (moved c t.set t.reply carrier); sent = t.sent })
+transmitted c carrier (Err cause) = Err cause
 
 -- to 1 to 7; "the flag handed in" with such a write is none
 abbrev pub written : Chip → (address value : ℕ) → Written
 written c address value =
     record {
       chip = record { set = c.set; registers = stored c.registers address value; inbox = c.inbox };
-      refusal = BySet Accepted;
       sent = 0;
     }
 
-abbrev pub write_to : (address : ℕ) → Chip → (value : ℕ) → Bool → (room : ℕ) → Written
+abbrev pub write_to : (address : ℕ) → Chip → (value : ℕ) → Bool → (room : ℕ) → Result Written Refusal
 write_to zero c value carrier n = transmitted c carrier (set.typed c.set value carrier n)
-write_to (suc address) c value carrier n = written c (suc address) value
+write_to (suc address) c value carrier n = Ok (written c (suc address) value)
 
-abbrev pub write_if : (ok known : Bool) → Chip → (address value : ℕ) → Bool → (room : ℕ) → Written
-write_if false known c address value carrier n = write_declined (BySet Unsound) c
-write_if true false c address value carrier n = write_declined Address c
+abbrev pub write_if : (ok known : Bool) → Chip → (address value : ℕ) → Bool → (room : ℕ) → Result Written Refusal
+write_if false known c address value carrier n = Err Unsound
+write_if true false c address value carrier n = Err Address
 write_if true true c address value carrier n = write_to address c value carrier n
 
-unfoldable pub write : Chip → (address value : ℕ) → Bool → (room : ℕ) → Written
+unfoldable pub write : Chip → (address value : ℕ) → Bool → (room : ℕ) → Result Written Refusal
 write c address value carrier n = write_if (sound c) (leb address 7) c address value carrier n
 
 -- the outbox: as the typed call leaves it, else as it was
@@ -147,25 +138,27 @@ unfoldable pub outbox : Chip → (address value : ℕ) → List ℕ → List ℕ
 outbox c address value was = outbox_if (sound c) (leb address 7) c address value was
 
 -- ---- a lapse: 6
-abbrev pub lapse_taken : Chip → Bool → Lapsed → Lapse
-lapse_taken c carrier l = record { chip = moved c l.set l.reply carrier; refusal = BySet l.refusal }
+abbrev pub lapse_taken : Chip → Bool → Result Lapsed Refusal → Result Chip Refusal
+lapse_taken c carrier (Ok l) = Ok (moved c l.set l.reply carrier)
+lapse_taken c carrier (Err cause) = Err cause
 
-abbrev pub lapse_if : (ok : Bool) → Chip → ℕ → Bool → Lapse
-lapse_if false c ns carrier = record { chip = c; refusal = BySet Unsound }
+abbrev pub lapse_if : (ok : Bool) → Chip → ℕ → Bool → Result Chip Refusal
+lapse_if false c ns carrier = Err Unsound
 lapse_if true c ns carrier = lapse_taken c carrier (set.lapsed c.set ns carrier)
 
-unfoldable pub lapsed : Chip → ℕ → Bool → Lapse
+unfoldable pub lapsed : Chip → ℕ → Bool → Result Chip Refusal
 lapsed c ns carrier = lapse_if (sound c) c ns carrier
 
 -- ---- a fill: 6, then the set's causes; no flag is handed in. 02, E8: with the key of its last sample
-abbrev pub fill_taken : Chip → Filled → Fill
-fill_taken c f = record { chip = moved c f.set None c.registers.flag; refusal = BySet f.refusal; key = f.key }
+abbrev pub fill_taken : Chip → Result Filled Refusal → Result Fill Refusal
+fill_taken c (Ok f) = Ok (record { chip = moved c f.set None c.registers.flag; key = f.key })
+fill_taken c (Err cause) = Err cause
 
-abbrev pub fill_if : (ok : Bool) → Chip → ℕ → Fill
-fill_if false c b = record { chip = c; refusal = BySet Unsound; key = option.None }
+abbrev pub fill_if : (ok : Bool) → Chip → ℕ → Result Fill Refusal
+fill_if false c b = Err Unsound
 fill_if true c b = fill_taken c (set.fill c.set b)
 
-unfoldable pub filled : Chip → ℕ → Fill
+unfoldable pub filled : Chip → ℕ → Result Fill Refusal
 filled c b = fill_if (sound c) c b
 
 abbrev pub buffer_if : (ok : Bool) → Chip → List Float → List Float
@@ -174,3 +167,25 @@ buffer_if true c was = set.buffer c.set was
 
 unfoldable pub buffer : Chip → List Float → List Float
 buffer c was = buffer_if (sound c) c was
+
+-- ---- the chip that a call leaves: the one that it hands out, or the caller's own where it is declined; and what else is told: "a declined read gives 0"
+abbrev pub chip_read : Chip → Result Read Refusal → Chip
+chip_read c answer = told (λ (a : Read). a.chip) c answer
+
+abbrev pub value_read : Result Read Refusal → ℕ
+value_read answer = told (λ (a : Read). a.value) 0 answer
+
+abbrev pub chip_written : Chip → Result Written Refusal → Chip
+chip_written c answer = told (λ (a : Written). a.chip) c answer
+
+abbrev pub sent_written : Result Written Refusal → ℕ
+sent_written answer = told (λ (a : Written). a.sent) 0 answer
+
+abbrev pub chip_left : Chip → Result Chip Refusal → Chip
+chip_left c answer = told (λ (a : Chip). a) c answer
+
+abbrev pub chip_filled : Chip → Result Fill Refusal → Chip
+chip_filled c answer = told (λ (a : Fill). a.chip) c answer
+
+abbrev pub key_filled : Result Fill Refusal → Option Key
+key_filled answer = told (λ (a : Fill). a.key) option.None answer

@@ -5,23 +5,16 @@
 ghost use Rattle.std.specs.Prelude.{◌≡◌, ◌<◌, true, leb, length};
 ghost use Rattle.at.specs.Processor.{command_mode};
 ghost use Rattle.set.specs.Set as set;
-ghost use Rattle.uart.specs.Causes.{cause_number};
 ghost use Rattle.uart.specs.Inbox.{closed, text_of_reply, came, received};
 ghost use Rattle.uart.specs.Registers.{bit, address_of, RegisterAt, identification, line_status, modem_status, settled, with_enable, stored, value_at};
-ghost use Rattle.uart.specs.Chip.{started, sound, dcd, moved, value_of, chip_after, text_read, identified, line_status_read, modem_status_read, read_if, read, write_declined, transmitted, written, write_if, write, outbox_if, outbox, lapse_taken, lapsed, fill_taken, filled, buffer};
+ghost use Rattle.uart.specs.Chip.{started, sound, dcd, moved, value_of, chip_after, text_read, identified, line_status_read, modem_status_read, read_if, read, transmitted, written, write_if, write, outbox_if, outbox, lapse_taken, lapsed, fill_taken, filled, buffer};
 
 use keys::Key;
 use queue::Queue;
+use refusal::Refusal;
 use reply::{Code, Reply};
 use session::SessionState;
-use set::{Refusal, Set};
-
-// Why a call is declined, if it is: the address, or the set's own cause.
-#[derive(Clone, Copy)]
-pub enum Cause {
-    Address,
-    BySet(Refusal),
-}
+use set::Set;
 
 // What the sheet's registers hold. Identification and the two status registers are worked out.
 #[derive(Clone, Copy)]
@@ -65,58 +58,39 @@ pub struct Chip {
     pub inbox: Inbox,
 }
 
+// A chip is handed out whatever the rate: at 8,000 where the rate is declined.
 #[derive(Clone, Copy)]
 pub struct Start {
     pub chip: Chip,
-    pub refusal: Cause,
+    pub checked: Result<(), Refusal>,
 }
 
 #[derive(Clone, Copy)]
 pub struct Read {
     pub chip: Chip,
-    pub refusal: Cause,
     pub value: u8,
 }
 
 #[derive(Clone, Copy)]
 pub struct Written {
     pub chip: Chip,
-    pub refusal: Cause,
     // bytes put into the outbox
     pub sent: usize,
 }
 
 #[derive(Clone, Copy)]
-pub struct Lapse {
-    pub chip: Chip,
-    pub refusal: Cause,
-}
-
-#[derive(Clone, Copy)]
 pub struct Fill {
     pub chip: Chip,
-    pub refusal: Cause,
     // that of the last sample
     pub key: Option<Key>,
 }
 
-impl Cause {
-    pub fn number(self) -> u8
-        ensures { result ≡ cause_number self }
-    {
-        match self {
-            Cause::Address => 15,
-            Cause::BySet(refusal) => refusal.number(),
-        }
-    }
-}
-
 impl TryFrom<u8> for Register {
-    type Error = Cause;
+    type Error = Refusal;
 
     ghost try_from_gives = { RegisterAt };
 
-    fn try_from(address: u8) -> Result<Register, Cause> {
+    fn try_from(address: u8) -> Result<Register, Refusal> {
         match address {
             0 => Ok(Register::Data),
             1 => Ok(Register::Enable),
@@ -126,7 +100,7 @@ impl TryFrom<u8> for Register {
             5 => Ok(Register::LineStatus),
             6 => Ok(Register::ModemStatus),
             7 => Ok(Register::Scratch),
-            _ => Err(Cause::Address),
+            _ => Err(Refusal::Address),
         }
     }
 }
@@ -317,7 +291,7 @@ impl Chip {
                 registers,
                 inbox,
             },
-            refusal: Cause::BySet(made.refusal),
+            checked: made.checked,
         }
     }
 
@@ -439,56 +413,59 @@ impl Chip {
 
     // A register is read.
     #[tactic(auto, unfolding(crate::specs::Chip::read))]
-    pub fn read(self, address: u8) -> Read
+    pub fn read(self, address: u8) -> Result<Read, Refusal>
         ensures { result ≡ read self address }
     {
-        if self.sound() {
-            return self.read_sound(address);
+        if !self.sound() {
+            return Err(Refusal::Unsound);
         }
-        Read {
-            chip: self,
-            refusal: Cause::BySet(Refusal::Unsound),
-            value: 0,
-        }
+        self.read_sound(address)
     }
 
-    fn read_sound(self, address: u8) -> Read
+    fn read_sound(self, address: u8) -> Result<Read, Refusal>
         ensures { result ≡ read_if true (leb address 7) self address }
     {
         match Register::try_from(address) {
-            Ok(register) => Read {
+            Ok(register) => Ok(Read {
                 chip: self.after_read(register),
-                refusal: Cause::BySet(Refusal::Accepted),
                 value: self.value(register),
-            },
-            Err(refusal) => Read {
-                chip: self,
-                refusal,
-                value: 0,
-            },
+            }),
+            Err(refusal) => Err(refusal),
         }
     }
 
     // A register is written; a byte for address 0 is typed into the set.
     #[tactic(auto, unfolding(crate::specs::Chip::write, crate::specs::Chip::outbox))]
-    pub fn write(self, address: u8, value: u8, carrier: bool, out: &mut [u8]) -> Written
+    pub fn write(
+        self,
+        address: u8,
+        value: u8,
+        carrier: bool,
+        out: &mut [u8],
+    ) -> Result<Written, Refusal>
         ensures value { result ≡ write self address value carrier (length out.old) }
         ensures out_after { out.new ≡ outbox self address value out.old }
     {
-        if self.sound() {
-            return self.write_sound(address, value, carrier, out);
+        if !self.sound() {
+            return Err(Refusal::Unsound);
         }
-        declined(self, Cause::BySet(Refusal::Unsound))
+        self.write_sound(address, value, carrier, out)
     }
 
-    fn write_sound(self, address: u8, value: u8, carrier: bool, out: &mut [u8]) -> Written
+    fn write_sound(
+        self,
+        address: u8,
+        value: u8,
+        carrier: bool,
+        out: &mut [u8],
+    ) -> Result<Written, Refusal>
         ensures value { result ≡ write_if true (leb address 7) self address value carrier (length out.old) }
         ensures out_after { out.new ≡ outbox_if true (leb address 7) self address value out.old }
     {
         match Register::try_from(address) {
             Ok(Register::Data) => self.transmit(value, carrier, out),
-            Ok(register) => self.store(register, value),
-            Err(refusal) => declined(self, refusal),
+            Ok(register) => Ok(self.store(register, value)),
+            Err(refusal) => Err(refusal),
         }
     }
 
@@ -500,90 +477,64 @@ impl Chip {
                 registers: self.registers.store(register, value),
                 ..self
             },
-            refusal: Cause::BySet(Refusal::Accepted),
             sent: 0,
         }
     }
 
-    fn transmit(self, value: u8, carrier: bool, out: &mut [u8]) -> Written
+    fn transmit(self, value: u8, carrier: bool, out: &mut [u8]) -> Result<Written, Refusal>
         ensures value { result ≡ transmitted self carrier (set.typed self.set value carrier (length out.old)) }
         ensures out_after { out.new ≡ set.outbox self.set value out.old }
     {
-        let typed = self.set.feed(value, carrier, out);
-        if !typed.refusal.accepted() {
-            return declined(self, Cause::BySet(typed.refusal));
-        }
+        let typed = self.set.feed(value, carrier, out)?;
         let moved = self.moved(typed.set, typed.reply, carrier);
         let registers = Registers {
             pending: true,
             ..moved.registers
         };
-        Written {
+        Ok(Written {
             chip: Chip { registers, ..moved },
-            refusal: Cause::BySet(Refusal::Accepted),
             sent: typed.sent,
-        }
+        })
     }
 
     // Time passes, in nanoseconds.
     #[tactic(auto, unfolding(crate::specs::Chip::lapsed))]
-    pub fn lapse(self, ns: u64, carrier: bool) -> Lapse
+    pub fn lapse(self, ns: u64, carrier: bool) -> Result<Chip, Refusal>
         ensures { result ≡ lapsed self ns carrier }
     {
-        if self.sound() {
-            return self.lapse_sound(ns, carrier);
+        if !self.sound() {
+            return Err(Refusal::Unsound);
         }
-        Lapse {
-            chip: self,
-            refusal: Cause::BySet(Refusal::Unsound),
-        }
+        self.lapse_sound(ns, carrier)
     }
 
-    fn lapse_sound(self, ns: u64, carrier: bool) -> Lapse
+    fn lapse_sound(self, ns: u64, carrier: bool) -> Result<Chip, Refusal>
         ensures { result ≡ lapse_taken self carrier (set.lapsed self.set ns carrier) }
     {
-        let lapsed = self.set.advance_time(ns, carrier);
-        Lapse {
-            chip: self.moved(lapsed.set, lapsed.reply, carrier),
-            refusal: Cause::BySet(lapsed.refusal),
-        }
+        let lapsed = self.set.advance_time(ns, carrier)?;
+        Ok(self.moved(lapsed.set, lapsed.reply, carrier))
     }
 
     // Fills the buffer with what the house hears next.
     #[tactic(auto, unfolding(crate::specs::Chip::filled, crate::specs::Chip::buffer))]
-    pub fn fill(self, out: &mut [f32]) -> Fill
+    pub fn fill(self, out: &mut [f32]) -> Result<Fill, Refusal>
         ensures value { result ≡ filled self (length out.old) }
         ensures out_after { out.new ≡ buffer self out.old }
     {
-        if self.sound() {
-            return self.fill_sound(out);
+        if !self.sound() {
+            return Err(Refusal::Unsound);
         }
-        Fill {
-            chip: self,
-            refusal: Cause::BySet(Refusal::Unsound),
-            key: None,
-        }
+        self.fill_sound(out)
     }
 
-    fn fill_sound(self, out: &mut [f32]) -> Fill
+    fn fill_sound(self, out: &mut [f32]) -> Result<Fill, Refusal>
         ensures value { result ≡ fill_taken self (set.fill self.set (length out.old)) }
         ensures out_after { out.new ≡ set.buffer self.set out.old }
     {
-        let filled = self.set.process_out(out);
-        Fill {
+        let filled = self.set.process_out(out)?;
+        Ok(Fill {
             chip: self.moved(filled.set, Reply::None, self.registers.flag),
-            refusal: Cause::BySet(filled.refusal),
             key: filled.key,
-        }
-    }
-}
-
-fn declined(chip: Chip, refusal: Cause) -> Written
-    ensures { result ≡ write_declined refusal chip }
-{
-    Written {
-        chip,
-        refusal,
-        sent: 0,
+        })
     }
 }

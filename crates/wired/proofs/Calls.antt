@@ -17,8 +17,16 @@ use Rattle.control.specs.Control.{heard}
 use Rattle.soundness.specs.Sound.{rate_ok}
 use Rattle.set.specs.declared.Set.{Set}
 use Rattle.set.specs.declared.Typed.{Typed}
-use Rattle.set.specs.Refusals.{accepted, either}
+use Rattle.std.specs.Prelude.{Result, Ok, Err}
+use Rattle.refusal.specs.declared.Refusal.{Refusal}
+use Rattle.refusal.specs.declared.Refusal.TheVariants.{Rate, Outbox, Length, Unsound, Position, StringLength, StringRoom, Digits, BadFrame, QueueFull, TooLong, Start, Address}
+use Rattle.refusal.specs.Refusal.{number_of, answer_number}
+use Rattle.set.specs.declared.Lapsed.{Lapsed}
+use Rattle.set.specs.declared.Filled.{Filled}
+use Rattle.set.specs.Refusals.{Checked, accepted, either, checked}
+use Rattle.set.proofs.Unchanged.{checked-is, told-if}
 use Rattle.set.specs.Set as set
+use Rattle.set.specs.Set.{set_typed}
 use Rattle.set.specs.Book as book
 use Rattle.set.specs.Book.{Book, typing, time, entry_of, declined_with, fed_by, lapsed_by, entered}
 use Rattle.set.specs.Event as inner
@@ -31,49 +39,68 @@ use Rattle.claim.proofs.Expand.{Counts}
 use Rattle.uart.specs.declared.Chip.{Chip}
 use Rattle.uart.specs.declared.Read.{Read}
 use Rattle.uart.specs.declared.Written.{Written}
-use Rattle.uart.specs.declared.Lapse.{Lapse}
 use Rattle.uart.specs.declared.Fill.{Fill}
-use Rattle.uart.specs.Causes.{cause_number}
 use Rattle.uart.specs.Chip as uart
 use Rattle.uart.proofs.Waiting.{few-wait}
-use Rattle.uart.proofs.Unchanged.{read-declined, write-declined, lapse-declined, fill-declined}
+use Rattle.uart.proofs.Unchanged.{fill-moves, read-declined, write-declined, lapse-declined, fill-declined}
 use Rattle.wired.specs.Table.{Table, calls_of, value_in, joined_by, moved_on, typed_on, after_read, written_to, next}
 use Rattle.wired.specs.Trace.{Event, read_event, write_event, wait_event, fill_event, Did, reading, writing, waiting, filling, inside, Unchanged}
 use Rattle.wired.specs.Wired.{Answered}
 use Rattle.wired.proofs.Stands.{stands, beyond, sound-stands, value-stands, read-stands, read_keeps, moved-stands}
 
 -- ---- of every chip: a declined call changes nothing
-pub unchanged : (c : Chip) (e : Event) → Did c e → (cause_number e.refusal ≡ 0 → ⊥) → Unchanged c e
+pub unchanged : (c : Chip) (e : Event) → Did c e → (answer_number e.refusal ≡ 0 → ⊥) → Unchanged c e
 unchanged c e (reading address answer learnt) declined =
     let told : answer ≡ uart.read c address = learnt in
-    let q = read-declined c address (subst (λ (a : Read). cause_number a.refusal ≡ 0 → ⊥) told declined) in
-    record { chip = ap (λ (a : Read). a.chip) told ∙ q.0; lent = refl; value = ap (λ (a : Read). a.value) told ∙ q.1; sent = refl; key = refl }
+    let q = read-declined c address (subst (λ (a : Result Read Refusal). answer_number (checked a) ≡ 0 → ⊥) told declined) in
+    record { chip = ap (uart.chip_read c) told ∙ q.0; lent = refl; value = ap uart.value_read told ∙ q.1; sent = refl; key = refl }
 unchanged c e (writing address value carrier was left answer learnt) declined =
     let told : answer ≡ uart.write c address value carrier (length was) = learnt.0 in
     let wrote : left ≡ uart.outbox c address value was = learnt.1 in
-    let q = write-declined c address value carrier was (subst (λ (a : Written). cause_number a.refusal ≡ 0 → ⊥) told declined) in
+    let q = write-declined c address value carrier was (subst (λ (a : Result Written Refusal). answer_number (checked a) ≡ 0 → ⊥) told declined) in
     record {
-      chip = ap (λ (a : Written). a.chip) told ∙ q.0;
+      chip = ap (uart.chip_written c) told ∙ q.0;
       lent = ap inner.outbox_of (wrote ∙ q.2);
       value = refl;
-      sent = ap (λ (a : Written). a.sent) told ∙ q.1;
+      sent = ap uart.sent_written told ∙ q.1;
       key = refl;
     }
 unchanged c e (waiting ns carrier answer learnt) declined =
     let told : answer ≡ uart.lapsed c ns carrier = learnt in
-    let q = lapse-declined c ns carrier (subst (λ (a : Lapse). cause_number a.refusal ≡ 0 → ⊥) told declined) in
-    record { chip = ap (λ (a : Lapse). a.chip) told ∙ q; lent = refl; value = refl; sent = refl; key = refl }
+    let q = lapse-declined c ns carrier (subst (λ (a : Result Chip Refusal). answer_number (checked a) ≡ 0 → ⊥) told declined) in
+    record { chip = ap (uart.chip_left c) told ∙ q; lent = refl; value = refl; sent = refl; key = refl }
 unchanged c e (filling was left answer learnt) declined =
     let told : answer ≡ uart.filled c (length was) = learnt.0 in
     let wrote : left ≡ uart.buffer c was = learnt.1 in
-    let q = fill-declined c was (subst (λ (a : Fill). cause_number a.refusal ≡ 0 → ⊥) told declined) in
+    let q = fill-declined c was (subst (λ (a : Result Fill Refusal). answer_number (checked a) ≡ 0 → ⊥) told declined) in
     record {
-      chip = ap (λ (a : Fill). a.chip) told ∙ q.0;
+      chip = ap (uart.chip_filled c) told ∙ q.0;
       lent = ap inner.buffer_of (wrote ∙ q.2);
       value = refl;
       sent = refl;
-      key = ap (λ (a : Fill). a.key) told ∙ q.1;
+      key = ap uart.key_filled told ∙ q.1;
     }
+
+-- a call is accepted exactly where its number is 0
+has_number : (refusal : Refusal) → false ≡ eqb (number_of refusal) 0
+has_number Rate = refl
+has_number Outbox = refl
+has_number Length = refl
+has_number Unsound = refl
+has_number Position = refl
+has_number StringLength = refl
+has_number StringRoom = refl
+has_number Digits = refl
+has_number BadFrame = refl
+has_number QueueFull = refl
+has_number TooLong = refl
+has_number Start = refl
+has_number Address = refl
+
+by-number : (cause : Checked) → accepted cause ≡ eqb (answer_number cause) 0
+unfolding accepted
+by-number (Ok done) = refl
+by-number (Err refusal) = has_number refusal
 
 -- what one call does, made on the chip of a table
 pub record Step (r : ℕ) (s : Set) (t : Table) (e : Event) : Type 0 where
@@ -108,24 +135,23 @@ module _ (r : ℕ) (ok : rate_ok r ≡ true) (s : Set) (t : Table) (h : SinceDia
   read_is address = rw good
 
   read_by : (address : ℕ) (known : Bool) → leb address 7 ≡ known
-      → ((uart.read_if true known c address).chip ≡ stands s (after_read t address))
-      × (cause_number (uart.read_if true known c address).refusal ≡ either known 0 15)
-      × ((uart.read_if true known c address).value ≡ value_in t address)
-  unfolding cause_number
+      → (uart.chip_read c (uart.read_if true known c address) ≡ stands s (after_read t address))
+      × (answer_number (checked (uart.read_if true known c address)) ≡ either known 0 15)
+      × (uart.value_read (uart.read_if true known c address) ≡ value_in t address)
   read_by address true e = (read-stands r s t at.follows few address, refl, value-stands r s t at.follows few address)
   read_by address false e =
       let q = beyond t address (leb-false address 7 e) in
       (ap (stands s) (sym q.1), refl, sym q.0)
 
-  read_step : (address : ℕ) (answer : Read) → answer ≡ uart.read c address → Did c (read_event address answer) → Step r s t (read_event address answer)
+  read_step : (address : ℕ) (answer : Result Read Refusal) → answer ≡ uart.read c address → Did c (read_event c address answer) → Step r s t (read_event c address answer)
   read_step address answer told did =
       let is : answer ≡ uart.read_if true (leb address 7) c address = told ∙ read_is address in
       let q = read_by address (leb address 7) refl in
       let k = read_keeps r s t at.follows few address in
-      let chip : answer.chip ≡ stands s (after_read t address) = ap (λ (a : Read). a.chip) is ∙ q.0 in
-      let same : answer.chip.set ≡ s = ap (λ (c : Chip). c.set) chip in
-      let number : cause_number answer.refusal ≡ either (leb address 7) 0 15 = ap (λ (a : Read). cause_number a.refusal) is ∙ q.1 in
-      let on : ListInvariant r answer.chip.set (after_read t address).book h = rw same (rests (after_read t address) k.0) in
+      let chip : uart.chip_read c answer ≡ stands s (after_read t address) = ap (uart.chip_read c) is ∙ q.0 in
+      let same : (uart.chip_read c answer).set ≡ s = ap (λ (c : Chip). c.set) chip in
+      let number : answer_number (checked answer) ≡ either (leb address 7) 0 15 = ap (λ (a : Result Read Refusal). answer_number (checked a)) is ∙ q.1 in
+      let on : ListInvariant r (uart.chip_read c answer).set (after_read t address).book h = rw same (rests (after_read t address) k.0) in
       record {
         since = h;
         set = on;
@@ -134,8 +160,8 @@ module _ (r : ℕ) (ok : rate_ok r ≡ true) (s : Set) (t : Table) (h : SinceDia
         answered = record {
           number = number;
           sound = λ six. never-6 (leb address 7) 0 (λ e. omega arith) (sym number ∙ six);
-          unchanged = unchanged c (read_event address answer) did;
-          value = ap (λ (a : Read). a.value) is ∙ q.2;
+          unchanged = unchanged c (read_event c address answer) did;
+          value = ap uart.value_read is ∙ q.2;
           sent = refl;
           outbox = refl;
           key = refl;
@@ -156,28 +182,27 @@ module _ (r : ℕ) (ok : rate_ok r ≡ true) (s : Set) (t : Table) (h : SinceDia
   store_by : (address value : ℕ) (carrier : Bool) (was : List ℕ) (known : Bool)
       → let answer = uart.write_if true known c (suc address) value carrier (length was) in
       let on = either known (written_to (suc address) r t value carrier (length was)) t in
-      (answer.chip ≡ stands s on)
-      × (cause_number answer.refusal ≡ either known 0 15)
-      × (answer.sent ≡ 0)
+      (uart.chip_written c answer ≡ stands s on)
+      × (answer_number (checked answer) ≡ either known 0 15)
+      × (uart.sent_written answer ≡ 0)
       × (uart.outbox_if true known c (suc address) value was ≡ was)
       × (on.book ≡ t.book)
       × (length on.text ≤ 256)
-  unfolding cause_number
   store_by address value carrier was true = (refl, refl, refl, refl, refl, few)
   store_by address value carrier was false = (refl, refl, refl, refl, refl, few)
 
-  store_step : (address value : ℕ) (carrier : Bool) (was left : List ℕ) (answer : Written)
+  store_step : (address value : ℕ) (carrier : Bool) (was left : List ℕ) (answer : Result Written Refusal)
       → answer ≡ uart.write c (suc address) value carrier (length was) → left ≡ uart.outbox c (suc address) value was
-      → Did c (write_event (suc address) value carrier was left answer) → Step r s t (write_event (suc address) value carrier was left answer)
+      → Did c (write_event c (suc address) value carrier was left answer) → Step r s t (write_event c (suc address) value carrier was left answer)
   store_step address value carrier was left answer told wrote did =
       let known = leb (suc address) 7 in
       let is : answer ≡ uart.write_if true known c (suc address) value carrier (length was) = told ∙ write-is (suc address) value carrier (length was) in
       let q = store_by address value carrier was known in
       let later = either known (written_to (suc address) r t value carrier (length was)) t in
-      let chip : answer.chip ≡ stands s later = ap (λ (a : Written). a.chip) is ∙ q.0 in
-      let same : answer.chip.set ≡ s = ap (λ (c : Chip). c.set) chip in
-      let number : cause_number answer.refusal ≡ either known 0 15 = ap (λ (a : Written). cause_number a.refusal) is ∙ q.1 in
-      let on : ListInvariant r answer.chip.set later.book h = rw same (rests later q.4) in
+      let chip : uart.chip_written c answer ≡ stands s later = ap (uart.chip_written c) is ∙ q.0 in
+      let same : (uart.chip_written c answer).set ≡ s = ap (λ (c : Chip). c.set) chip in
+      let number : answer_number (checked answer) ≡ either known 0 15 = ap (λ (a : Result Written Refusal). answer_number (checked a)) is ∙ q.1 in
+      let on : ListInvariant r (uart.chip_written c answer).set later.book h = rw same (rests later q.4) in
       record {
         since = h;
         set = on;
@@ -186,9 +211,9 @@ module _ (r : ℕ) (ok : rate_ok r ≡ true) (s : Set) (t : Table) (h : SinceDia
         answered = record {
           number = number;
           sound = λ six. never-6 known 0 (λ e. omega arith) (sym number ∙ six);
-          unchanged = unchanged c (write_event (suc address) value carrier was left answer) did;
+          unchanged = unchanged c (write_event c (suc address) value carrier was left answer) did;
           value = refl;
-          sent = ap (λ (a : Written). a.sent) is ∙ q.2;
+          sent = ap uart.sent_written is ∙ q.2;
           outbox = wrote ∙ outbox-is (suc address) value was ∙ q.3;
           key = refl;
           reports = reports-of r _ _ h on;
@@ -201,11 +226,11 @@ module _ (r : ℕ) (ok : rate_ok r ≡ true) (s : Set) (t : Table) (h : SinceDia
     abbrev n : ℕ
     n = length was
 
-    abbrev typed : Typed
+    abbrev typed : Result Typed Refusal
     typed = set.typed s value carrier n
 
     abbrev call : inner.Event
-    call = typed_event value carrier was left typed
+    call = typed_event s value carrier was left typed
 
     made : claim.Did s call
     made = claim.typed value carrier was left typed (refl, wrote)
@@ -216,140 +241,155 @@ module _ (r : ℕ) (ok : rate_ok r ≡ true) (s : Set) (t : Table) (h : SinceDia
     told-inside : claim-answers.Answered r s t.book call
     told-inside = (step r ok s t.book h at call made).0
 
-    inside_on : ListInvariant r typed.set (entered r t.book (typing value carrier n)) (claim-answers.since_next r t.book h call)
+    inside_on : ListInvariant r (set.set_typed s typed) (entered r t.book (typing value carrier n)) (claim-answers.since_next r t.book h call)
     inside_on = (step r ok s t.book h at call made).1
 
-    taken_is : accepted typed.refusal ≡ eqb number 0
-    unfolding accepted
-    taken_is = ap (λ (n : ℕ). eqb n 0) told-inside.number
+    taken_is : accepted (checked typed) ≡ eqb number 0
+    taken_is = by-number (checked typed) ∙ ap (λ (n : ℕ). eqb n 0) told-inside.number
 
     same-fed : typed_byte s.processor value (heard s.session carrier) n ≡ fed_by t.book value carrier n
     unfolding heard
     same-fed = rw (at.follows.processor, at.follows.state)
 
-    reply-is : typed.reply ≡ either (accepted typed.refusal) (fed_by t.book value carrier n).reply None
+    reply-is : set.reply_typed typed ≡ either (accepted (checked typed)) (fed_by t.book value carrier n).reply None
     unfolding set.typed
-    reply-is = rw same-fed
+    reply-is =
+        told-if (set.typing_cause s n) (λ (a : Typed). a.reply) None (set.byte_typed s value carrier n)
+        ∙ rw (checked-is (set.typing_cause s n) (set.byte_typed s value carrier n), same-fed)
 
-    sent_is : typed.sent ≡ either (accepted typed.refusal) (fed_by t.book value carrier n).sent 0
+    sent_is : set.sent_typed typed ≡ either (accepted (checked typed)) (fed_by t.book value carrier n).sent 0
     unfolding set.typed
-    sent_is = rw same-fed
+    sent_is =
+        told-if (set.typing_cause s n) (λ (a : Typed). a.sent) 0 (set.byte_typed s value carrier n)
+        ∙ rw (checked-is (set.typing_cause s n) (set.byte_typed s value carrier n), same-fed)
 
-    left_is : left ≡ either (accepted typed.refusal) (put (sent t.book.processor value) was) was
+    left_is : left ≡ either (accepted (checked typed)) (put (sent t.book.processor value) was) was
     unfolding set.typed set.outbox
-    left_is = wrote ∙ rw at.follows.processor
+    left_is = wrote ∙ rw (checked-is (set.typing_cause s n) (set.byte_typed s value carrier n), at.follows.processor)
 
-    -- with the test of the answer in the table's place
-    module _ (taken : Bool) (is : accepted typed.refusal ≡ taken) where
-      abbrev answer : Written
-      answer = uart.transmitted_if taken c carrier typed
+    -- by the set's answer
+    module _ (a : Result Typed Refusal) where
+      abbrev answer : Result Written Refusal
+      answer = uart.transmitted c carrier a
 
       abbrev later : Table
-      later = either taken (typed_on r t value carrier n) t
+      later = either (accepted (checked a)) (typed_on r t value carrier n) t
 
       pub record Typing : Type 0 where
         pub since : SinceDial
-        pub set : ListInvariant r answer.chip.set later.book since
-        pub chip : answer.chip ≡ stands answer.chip.set later
+        pub set : ListInvariant r (uart.chip_written c answer).set later.book since
+        pub chip : uart.chip_written c answer ≡ stands (uart.chip_written c answer).set later
         pub short : length later.text ≤ 256
-        pub number : cause_number answer.refusal ≡ declined_with t.book (typing value carrier n)
-        pub sent : answer.sent ≡ either taken (fed_by t.book value carrier n).sent 0
-        pub inside : typed.set ≡ answer.chip.set
+        pub number : answer_number (checked answer) ≡ declined_with t.book (typing value carrier n)
+        pub sent : uart.sent_written answer ≡ either (accepted (checked a)) (fed_by t.book value carrier n).sent 0
+        pub inside : set_typed s a ≡ (uart.chip_written c answer).set
 
-    typing-by : (taken : Bool) (is : accepted typed.refusal ≡ taken) → Typing taken is
-    unfolding cause_number accepted
-    typing-by true is =
-        let reply : typed.reply ≡ (fed_by t.book value carrier n).reply = reply-is ∙ ap (λ (b : Bool). either b (fed_by t.book value carrier n).reply None) is in
+    typing-by : (a : Result Typed Refusal) → typed ≡ a → Typing a
+    unfolding accepted
+    typing-by (Ok x) is =
+        let reply : x.reply ≡ (fed_by t.book value carrier n).reply =
+        subst (λ (a : Result Typed Refusal). set.reply_typed a ≡ either (accepted (checked a)) (fed_by t.book value carrier n).reply None) is reply-is in
+        let on : ListInvariant r x.set (entered r t.book (typing value carrier n)) (claim-answers.since_next r t.book h call) =
+        subst (λ (a : Result Typed Refusal). ListInvariant r (set.set_typed s a) (entered r t.book (typing value carrier n)) (claim-answers.since_next r t.book h call)) is inside_on in
         record {
           since = claim-answers.since_next r t.book h call;
-          set = inside_on;
+          set = on;
           chip = ap uart.emptied
-              (ap (λ (reply : Reply). uart.moved c typed.set reply carrier) reply
-              ∙ moved-stands r s t at.follows few typed.set (entered r t.book (typing value carrier n)) (fed_by t.book value carrier n).reply carrier inside_on.follows);
+              (ap (λ (reply : Reply). uart.moved c x.set reply carrier) reply
+              ∙ moved-stands r s t at.follows few x.set (entered r t.book (typing value carrier n)) (fed_by t.book value carrier n).reply carrier on.follows);
           short = few-wait (joined_by t (fed_by t.book value carrier n).reply (entered r t.book (typing value carrier n)));
-          number = sym (eqb-true _ 0 is) ∙ told-inside.number;
-          sent = sent_is ∙ ap (λ (b : Bool). either b (fed_by t.book value carrier n).sent 0) is;
+          number = subst (λ (a : Result Typed Refusal). answer_number (checked a) ≡ number) is told-inside.number;
+          sent = subst (λ (a : Result Typed Refusal). set.sent_typed a ≡ either (accepted (checked a)) (fed_by t.book value carrier n).sent 0) is sent_is;
           inside = refl;
         }
-    typing-by false is =
+    typing-by (Err e) is =
         record {
           since = h;
           set = at;
           chip = refl;
           short = few;
-          number = told-inside.number;
+          number = subst (λ (a : Result Typed Refusal). answer_number (checked a) ≡ number) is told-inside.number;
           sent = refl;
-          inside = (told-inside.unchanged (eqb-false _ 0 is)).set;
+          inside = refl;
         }
 
-    type-step : (answer : Written) → answer ≡ uart.transmitted c carrier typed → Did c (write_event 0 value carrier was left answer)
-        → Step r s t (write_event 0 value carrier was left answer)
+    type-step : (answer : Result Written Refusal) → answer ≡ uart.transmitted c carrier typed → Did c (write_event c 0 value carrier was left answer)
+        → Step r s t (write_event c 0 value carrier was left answer)
     type-step answer told did =
-        let q = typing-by (eqb number 0) taken_is in
-        let later = either (eqb number 0) (typed_on r t value carrier n) t in
-        let is : answer ≡ uart.transmitted_if (eqb number 0) c carrier typed = told ∙ ap (λ (b : Bool). uart.transmitted_if b c carrier typed) taken_is in
-        let numbered : cause_number answer.refusal ≡ number = ap (λ (a : Written). cause_number a.refusal) is ∙ q.number in
-        let on : ListInvariant r answer.chip.set later.book q.since = rw is q.set in
+        let q = typing-by typed refl in
+        let on_if = λ (b : Bool). either b (typed_on r t value carrier n) t in
+        let later = on_if (eqb number 0) in
+        let numbered : answer_number (checked answer) ≡ number = ap (λ (a : Result Written Refusal). answer_number (checked a)) told ∙ q.number in
+        let on : ListInvariant r (uart.chip_written c answer).set later.book q.since =
+        rw told (subst (λ (b : Bool). ListInvariant r (uart.chip_written c (uart.transmitted c carrier typed)).set (on_if b).book q.since) taken_is q.set) in
         record {
           since = q.since;
           set = on;
-          chip = rw is q.chip;
-          few = q.short;
+          chip = rw told (subst (λ (b : Bool). uart.chip_written c (uart.transmitted c carrier typed) ≡ stands (uart.chip_written c (uart.transmitted c carrier typed)).set (on_if b)) taken_is q.chip);
+          few = subst (λ (b : Bool). length (on_if b).text ≤ 256) taken_is q.short;
           answered = record {
             number = numbered;
             sound = λ six. told-inside.sound (told-inside.number ∙ sym numbered ∙ six);
-            unchanged = unchanged c (write_event 0 value carrier was left answer) did;
+            unchanged = unchanged c (write_event c 0 value carrier was left answer) did;
             value = refl;
-            sent = ap (λ (a : Written). a.sent) is ∙ q.sent;
+            sent = ap uart.sent_written told ∙ q.sent ∙ ap (λ (b : Bool). either b (fed_by t.book value carrier n).sent 0) taken_is;
             outbox = left_is ∙ ap (λ (b : Bool). either b (put (sent t.book.processor value) was) was) taken_is;
             key = refl;
             reports = reports-of r _ _ q.since on;
           };
-          counts = record { trace = (made, tt); set = q.inside ∙ ap (λ (a : Written). a.chip.set) (sym is); asked = refl };
+          counts = record { trace = (made, tt); set = q.inside ∙ ap (λ (a : Result Written Refusal). (uart.chip_written c a).set) (sym told); asked = refl };
         }
 
   -- ---- a lapse
   module _ (ns : ℕ) (carrier : Bool) where
-    lapse-is : uart.lapsed c ns carrier ≡ uart.lapse_taken c carrier (set.lapsed s ns carrier)
+    abbrev time_on : Lapsed
+    time_on = set.time_lapsed s ns carrier
+
+    lapse-taken : set.lapsed s ns carrier ≡ Ok time_on
+    unfolding set.lapsed set.lapse_cause
+    lapse-taken = rw at.sound
+
+    lapse-is : uart.lapsed c ns carrier ≡ Ok (uart.moved c time_on.set time_on.reply carrier)
     unfolding uart.lapsed
-    lapse-is = rw good
+    lapse-is = rw (good, lapse-taken)
 
-    lapse-reply : (set.lapsed s ns carrier).reply ≡ (lapsed_by t.book ns carrier).reply
-    unfolding set.lapsed set.lapse_cause accepted heard
-    lapse-reply = rw (at.sound, at.follows.processor, at.follows.state)
+    lapse-reply : time_on.reply ≡ (lapsed_by t.book ns carrier).reply
+    unfolding heard
+    lapse-reply = rw (at.follows.processor, at.follows.state)
 
-    wait-step : (answer : Lapse) → answer ≡ uart.lapsed c ns carrier → Did c (wait_event ns carrier answer) → Step r s t (wait_event ns carrier answer)
-    unfolding cause_number entry_of
+    wait-step : (answer : Result Chip Refusal) → answer ≡ uart.lapsed c ns carrier → Did c (wait_event c ns carrier answer) → Step r s t (wait_event c ns carrier answer)
+    unfolding entry_of
     wait-step answer told did =
-        let is : answer ≡ uart.lapse_taken c carrier (set.lapsed s ns carrier) = told ∙ lapse-is in
-        let call = lapsed_event ns carrier (set.lapsed s ns carrier) in
+        let is : answer ≡ Ok (uart.moved c time_on.set time_on.reply carrier) = told ∙ lapse-is in
+        let call = lapsed_event s ns carrier (set.lapsed s ns carrier) in
         let made : claim.Did s call = claim.lapsed ns carrier (set.lapsed s ns carrier) refl in
         let q = step r ok s t.book h at call made in
         let k = entered r t.book (time ns carrier) in
         let reply = (lapsed_by t.book ns carrier).reply in
         let since = claim-answers.since_next r t.book h call in
-        let numbered : cause_number answer.refusal ≡ 0 = ap (λ (a : Lapse). cause_number a.refusal) is ∙ q.0.number in
-        let on : ListInvariant r answer.chip.set k since = rw is q.1 in
-        let chip : answer.chip ≡ stands (set.lapsed s ns carrier).set (moved_on t k reply carrier) =
-        ap (λ (a : Lapse). a.chip) is
-        ∙ ap (λ (reply : Reply). uart.moved c (set.lapsed s ns carrier).set reply carrier) lapse-reply
-        ∙ moved-stands r s t at.follows few (set.lapsed s ns carrier).set k reply carrier q.1.follows in
+        let numbered : answer_number (checked answer) ≡ 0 = ap (λ (a : Result Chip Refusal). answer_number (checked a)) is in
+        let inside : ListInvariant r time_on.set k since = subst (λ (a : Result Lapsed Refusal). ListInvariant r (set.set_lapsed s a) k since) lapse-taken q.1 in
+        let on : ListInvariant r (uart.chip_left c answer).set k since = rw is inside in
+        let chip : uart.chip_left c answer ≡ stands time_on.set (moved_on t k reply carrier) =
+        ap (uart.chip_left c) is
+        ∙ ap (λ (reply : Reply). uart.moved c time_on.set reply carrier) lapse-reply
+        ∙ moved-stands r s t at.follows few time_on.set k reply carrier inside.follows in
         record {
           since = since;
           set = on;
-          chip = chip ∙ ap (λ (s : Set). stands s (moved_on t k reply carrier)) (ap (λ (a : Lapse). a.chip.set) (sym is));
+          chip = chip ∙ ap (λ (s : Set). stands s (moved_on t k reply carrier)) (ap (λ (a : Result Chip Refusal). (uart.chip_left c a).set) (sym is));
           few = few-wait (joined_by t reply k);
           answered = record {
             number = numbered;
             sound = λ six. q.0.sound (q.0.number ∙ sym numbered ∙ six);
-            unchanged = unchanged c (wait_event ns carrier answer) did;
+            unchanged = unchanged c (wait_event c ns carrier answer) did;
             value = refl;
             sent = refl;
             outbox = refl;
             key = refl;
             reports = reports-of r _ _ since on;
           };
-          counts = record { trace = (made, tt); set = ap (λ (a : Lapse). a.chip.set) (sym is); asked = refl };
+          counts = record { trace = (made, tt); set = ap (set.set_lapsed s) lapse-taken ∙ ap (λ (a : Result Chip Refusal). (uart.chip_left c a).set) (sym is); asked = refl };
         }
 
   -- ---- a fill
@@ -361,38 +401,52 @@ module _ (r : ℕ) (ok : rate_ok r ≡ true) (s : Set) (t : Table) (h : SinceDia
   unfolding uart.buffer
   buffer-is was = rw good
 
-  fill_step : (was left : List Float) (answer : Fill) → answer ≡ uart.filled c (length was) → left ≡ uart.buffer c was
-      → Did c (fill_event was left answer) → Step r s t (fill_event was left answer)
-  unfolding cause_number
+  -- the chip answers what the set does
+  fill-number : (a : Result Filled Refusal) → answer_number (checked (uart.fill_taken c a)) ≡ answer_number (checked a)
+  fill-number (Ok f) = refl
+  fill-number (Err cause) = refl
+
+  fill-key : (a : Result Filled Refusal) → uart.key_filled (uart.fill_taken c a) ≡ set.key_filled a
+  fill-key (Ok f) = refl
+  fill-key (Err cause) = refl
+
+  fill-set : (a : Result Filled Refusal) → (uart.chip_filled c (uart.fill_taken c a)).set ≡ set.set_filled s a
+  fill-set (Ok f) = refl
+  fill-set (Err cause) = refl
+
+  fill_step : (was left : List Float) (answer : Result Fill Refusal) → answer ≡ uart.filled c (length was) → left ≡ uart.buffer c was
+      → Did c (fill_event c was left answer) → Step r s t (fill_event c was left answer)
   fill_step was left answer told wrote did =
       let b = length was in
       let flag = t.registers.flag in
       let is : answer ≡ uart.fill_taken c (set.fill s b) = told ∙ fill_is b in
-      let call = filled_event was left (set.fill s b) in
+      let call = filled_event s was left (set.fill s b) in
       let made : claim.Did s call = claim.filled was left (set.fill s b) (refl, wrote ∙ buffer-is was) in
       let q = step r ok s t.book h at call made in
       let k = entered r t.book (book.filling b) in
       let since = claim-answers.since_next r t.book h call in
-      let numbered : cause_number answer.refusal ≡ declined_with t.book (book.filling b) = ap (λ (a : Fill). cause_number a.refusal) is ∙ q.0.number in
-      let on : ListInvariant r answer.chip.set k since = rw is q.1 in
-      let chip : answer.chip ≡ stands (set.fill s b).set (moved_on t k None flag) =
-      ap (λ (a : Fill). a.chip) is ∙ moved-stands r s t at.follows few (set.fill s b).set k None flag q.1.follows in
+      let numbered : answer_number (checked answer) ≡ declined_with t.book (book.filling b) =
+      ap (λ (a : Result Fill Refusal). answer_number (checked a)) is ∙ fill-number (set.fill s b) ∙ q.0.number in
+      let same : (uart.chip_filled c answer).set ≡ set.set_filled s (set.fill s b) = ap (λ (a : Result Fill Refusal). (uart.chip_filled c a).set) is ∙ fill-set (set.fill s b) in
+      let on : ListInvariant r (uart.chip_filled c answer).set k since = subst (λ (x : Set). ListInvariant r x k since) (sym same) q.1 in
+      let chip : uart.chip_filled c answer ≡ stands (set.set_filled s (set.fill s b)) (moved_on t k None flag) =
+      ap (uart.chip_filled c) is ∙ fill-moves c (set.fill s b) ∙ moved-stands r s t at.follows few (set.set_filled s (set.fill s b)) k None flag q.1.follows in
       record {
         since = since;
         set = on;
-        chip = chip ∙ ap (λ (s : Set). stands s (moved_on t k None flag)) (ap (λ (a : Fill). a.chip.set) (sym is));
+        chip = chip ∙ ap (λ (s : Set). stands s (moved_on t k None flag)) (sym same);
         few = few-wait (joined_by t None k);
         answered = record {
           number = numbered;
           sound = λ six. q.0.sound (q.0.number ∙ sym numbered ∙ six);
-          unchanged = unchanged c (fill_event was left answer) did;
+          unchanged = unchanged c (fill_event c was left answer) did;
           value = refl;
           sent = refl;
           outbox = refl;
-          key = ap (λ (a : Fill). a.key) is ∙ q.0.key;
+          key = ap uart.key_filled is ∙ fill-key (set.fill s b) ∙ q.0.key;
           reports = reports-of r _ _ since on;
         };
-        counts = record { trace = (made, tt); set = ap (λ (a : Fill). a.chip.set) (sym is); asked = refl };
+        counts = record { trace = (made, tt); set = sym same; asked = refl };
       }
 
   -- ---- every call

@@ -1,6 +1,8 @@
 -- The theorem over the calls' own contracts: `Asked` and `Learnt` are made by the toolchain from a function's `requires` and `ensures`, so that a
 -- contract that says less is refused here. A list of calls that did what those promise is one of Trace.antt. Assumes nothing.
 use Rattle.std.proofs.Common.{ℕ, Bool, List, [], ◌∷◌, Float}
+use Rattle.std.specs.Prelude.{Result}
+use Rattle.refusal.specs.declared.Refusal.{Refusal}
 use contract.Lifetimes.{Lfts}
 use denote.MutBor.{MutBor}
 use denote.Ref.{at_last}
@@ -8,7 +10,6 @@ use Rattle.claim.specs.Expand as expand
 use Rattle.uart.specs.declared.Chip.{Chip}
 use Rattle.uart.specs.declared.Read.{Read}
 use Rattle.uart.specs.declared.Written.{Written}
-use Rattle.uart.specs.declared.Lapse.{Lapse}
 use Rattle.uart.specs.declared.Fill.{Fill}
 use Rattle.uart.specs.Chip as uart
 use Rattle.uart.proofs.Chip.read.Reads as read
@@ -24,22 +25,22 @@ use Rattle.wired.proofs.Lists.{Act, made, every-list, acts}
 
 -- the event is that of a call on the chip c, which was allowed, and did what its contract promises
 pub data Did (c : Chip) : Event → Type 0 where
-  reading : (address : ℕ) (answer : Read)
+  reading : (address : ℕ) (answer : Result Read Refusal)
       → read.Asked tt (c, (address, tt))
       → read.Learnt tt (c, (address, tt)) answer (c, (address, tt))
-      → Did c (read_event address answer)
-  writing : (address value : ℕ) (carrier : Bool) (κs : Lfts 1) (out : MutBor (List ℕ)) (left : List ℕ) (answer : Written)
+      → Did c (read_event c address answer)
+  writing : (address value : ℕ) (carrier : Bool) (κs : Lfts 1) (out : MutBor (List ℕ)) (left : List ℕ) (answer : Result Written Refusal)
       → write.Asked κs (c, (address, (value, (carrier, (out, tt)))))
       → write.Learnt κs (c, (address, (value, (carrier, (out, tt))))) answer (c, (address, (value, (carrier, (at_last out left, tt)))))
-      → Did c (write_event address value carrier out.now left answer)
-  waiting : (ns : ℕ) (carrier : Bool) (answer : Lapse)
+      → Did c (write_event c address value carrier out.now left answer)
+  waiting : (ns : ℕ) (carrier : Bool) (answer : Result Chip Refusal)
       → lapse.Asked tt (c, (ns, (carrier, tt)))
       → lapse.Learnt tt (c, (ns, (carrier, tt))) answer (c, (ns, (carrier, tt)))
-      → Did c (wait_event ns carrier answer)
-  filling : (κs : Lfts 1) (out : MutBor (List Float)) (left : List Float) (answer : Fill)
+      → Did c (wait_event c ns carrier answer)
+  filling : (κs : Lfts 1) (out : MutBor (List Float)) (left : List Float) (answer : Result Fill Refusal)
       → fill.Asked κs (c, (out, tt))
       → fill.Learnt κs (c, (out, tt)) answer (c, (at_last out left, tt))
-      → Did c (fill_event out.now left answer)
+      → Did c (fill_event c out.now left answer)
 
 -- each call gets the chip that the one before returned
 abbrev pub Trace : Chip → List Event → Type 0

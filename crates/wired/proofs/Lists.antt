@@ -39,11 +39,11 @@ pub data Act : Type 0 where
 
 -- what comes of the calls, made on the chip c
 abbrev pub made_by : Chip → Act → Event
-made_by c (read address) = read_event address (uart.read c address)
+made_by c (read address) = read_event c address (uart.read c address)
 made_by c (write address value carrier was) =
-    write_event address value carrier was (uart.outbox c address value was) (uart.write c address value carrier (length was))
-made_by c (wait ns carrier) = wait_event ns carrier (uart.lapsed c ns carrier)
-made_by c (fill was) = fill_event was (uart.buffer c was) (uart.filled c (length was))
+    write_event c address value carrier was (uart.outbox c address value was) (uart.write c address value carrier (length was))
+made_by c (wait ns carrier) = wait_event c ns carrier (uart.lapsed c ns carrier)
+made_by c (fill was) = fill_event c was (uart.buffer c was) (uart.filled c (length was))
 
 abbrev pub made : Chip → List Act → List Event
 made c [] = []

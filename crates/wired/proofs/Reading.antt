@@ -4,7 +4,7 @@ use Prim.Native.Nat.{ℕ}
 use mathlib.Core.Path.{◌≡◌, refl, ap}
 use mathlib.Core.Bool.{Bool, true}
 use mathlib.Core.List.{List, [], ◌∷◌, ◌++◌, map}
-use Rattle.std.specs.Prelude.{None}
+use Rattle.std.specs.Prelude.{None, Result}
 use Rattle.queue.specs.Queue.{waiting}
 use Rattle.set.specs.declared.Set.{Set}
 use Rattle.set.specs.Book.{Call, Book, blank, length_of}
@@ -16,8 +16,9 @@ use Rattle.claim.specs.Sent.{Sends}
 use Rattle.claim.specs.Strings.{single, last_set, all_singles, all_calls, AllStepsAnswered, Holds}
 use Rattle.uart.specs.declared.Start.{Start}
 use Rattle.uart.specs.declared.Chip.{Chip}
-use Rattle.uart.specs.declared.Lapse.{Lapse}
-use Rattle.uart.specs.Causes.{cause_number}
+use Rattle.refusal.specs.declared.Refusal.{Refusal}
+use Rattle.refusal.specs.Refusal.{answer_number}
+use Rattle.set.specs.Refusals.{checked}
 use Rattle.uart.specs.Chip.{started}
 use Rattle.wired.specs.Table.{Ask, Table, reset, declined_by, value_by, sent_by, outbox_by, key_by, next, table_after}
 use Rattle.wired.specs.Trace.{Event, wait_event, Trace, chip_after, all_inside, Unchanged}
@@ -51,8 +52,8 @@ each-is r s k [] told = tt
 each-is r s k (e ∷ es) (answered, rest) = (answered, each-is r e.set _ es rest)
 
 -- a lapse is told with its own refusal, which the table then says is none
-pub wait-told : (ns : ℕ) (carrier : Bool) (a : Lapse) → (wait_event ns carrier a).refusal ≡ a.refusal
-wait-told ns carrier a = refl
+pub wait-told : (c : Chip) (ns : ℕ) (carrier : Bool) (a : Result Chip Refusal) → (wait_event c ns carrier a).refusal ≡ checked a
+wait-told c ns carrier a = refl
 
 -- `start` asks nothing of the rate
 pub asks_nothing : (rate : ℕ) → start.Asked tt (rate, tt)
@@ -79,13 +80,13 @@ module _ (rate : ℕ) (answer : Start) (d : start.Learnt tt (rate, tt) answer (r
     answered : Answered r (chip_after c es) before e
     answered = at_call r c (reset r) es e later (serves (es ++ e ∷ later) tr).answered
 
-    pub number_is : cause_number e.refusal ≡ declined_by before e.ask
+    pub number_is : answer_number e.refusal ≡ declined_by before e.ask
     number_is = answered.number
 
-    pub never-unsound : cause_number e.refusal ≡ 6 → ⊥
+    pub never-unsound : answer_number e.refusal ≡ 6 → ⊥
     never-unsound = answered.sound
 
-    module _ (declined : cause_number e.refusal ≡ 0 → ⊥) where
+    module _ (declined : answer_number e.refusal ≡ 0 → ⊥) where
       unchanged : Unchanged (chip_after c es) e
       unchanged = answered.unchanged declined
 

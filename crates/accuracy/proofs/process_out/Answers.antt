@@ -1,16 +1,13 @@
 -- `process_out` meets its contract: it is the set's own fill, and the law on a fill holds of every set that there is, since the click's generator is
 -- a number of 64 bits in each. Assumes nothing.
 use mathlib.Core.List.{List}
-use mathlib.Core.Path.{ap, sym, ◌∙◌}
 use mir.Val.{Val}
 use denote.Shadow.{shadow}
 use Rattle.stage.specs.declared.StageState.{StageState}
 use Rattle.stage.specs.declared.StageState.TheVariants.{OffHook, DialTone, Dialling, Ringback, Ci, Ansam, CmJm, Cj, Training, Connected}
 use Rattle.stage.specs.contracts.StageState as state
-use Rattle.set.specs.Refusals.{accepted}
-use Rattle.set.specs.Set.{fill}
 use Rattle.accuracy.proofs.Overture.{InWord}
-use Rattle.accuracy.proofs.Fill.{fill-level, up-level}
+use Rattle.accuracy.proofs.Fill.{fill-taken, fill-level, up-level}
 use Rattle.accuracy.proofs.process_out.Goals as goal
 use Rattle.accuracy.proofs.process_out.Goals.{Start}
 
@@ -32,8 +29,13 @@ held : (c : Start) → InWord c.args.set.session.stage
 held c = in-word c.args.set.session.stage _ c.well_formed.0.1.1.1.1.0.1.1.1.1.1.1.0
 
 pub returns : goal.returns
-unfolding fill
 returns c = let answer = c.process_out.ensures.value in
     let left = c.process_out.ensures.out_after in
     let s = c.args.set in
-    let was = c.args.out.now in record { value = answer; out_after = left; all_in_level = λ dialling taken. rw left (fill-level s was (ap (λ f. accepted f.refusal) (sym answer) ∙ taken) (held (goal.at.returns c).Start) dialling); all_in_level_2 = λ up taken. rw left (up-level s was (ap (λ f. accepted f.refusal) (sym answer) ∙ taken) up) }
+    let was = c.args.out.now in
+    record {
+      value = answer;
+      out_after = left;
+      all_in_level = λ dialling taken. rw left (fill-level s was (fill-taken s _ (rw answer at taken)) (held (goal.at.returns c).Start) dialling);
+      all_in_level_2 = λ up taken. rw left (up-level s was (fill-taken s _ (rw answer at taken)) up);
+    }

@@ -1,27 +1,21 @@
 -- `cue::cue` meets its contract: by its cause. Assumes nothing.
-use mathlib.Core.Path.{◌≡◌, sym}
+use mathlib.Core.Path.{◌≡◌, sym, ap}
 use lib.ListN.{length}
-use Rattle.cue.specs.Cue.{cue_refusal_number, cue_cause, cued}
-use Rattle.cue.proofs.Cueing.{in-limits, few-digits, accepted-cued, declined-cued, first-of-digit, first-of-digit-is}
+use Rattle.refusal.specs.Refusal.{answer_number}
+use Rattle.cue.specs.Cue.{cue_cause, cued}
+use Rattle.cue.proofs.Cueing.{in-limits, few-digits, first-of-digit, first-of-digit-is}
 use borrow.Author.Rules.{rules}
 use Rattle.cue.proofs.cue.Goals as goal
 
 pub cue_sample-sample-requires : goal.cue_sample-sample-requires
-cue_sample-sample-requires c = let a = c.args in
-    in-limits a.set a.position (rw (← c.cue_cause-refusal.ensures, ← c.number.ensures) c.if-number-eq0.true)
+cue_sample-sample-requires c = in-limits c.args.set c.args.position (sym (ap answer_number c.in_ok-cue_cause.ensures))
 
 pub cue_key-key-requires : goal.cue_key-key-requires
-cue_key-key-requires c = let a = c.args in
-    few-digits a.set a.position (rw (← c.cue_cause-refusal.ensures, ← c.number.ensures) c.if-number-eq0.true)
-
-pub returns-then-number-eq0 : goal.returns-then-number-eq0
-unfolding cued
-returns-then-number-eq0 c = let a = c.args in
-    let zero : cue_refusal_number (cue_cause a.set a.position) ≡ 0 = rw (← c.cue_cause-refusal.ensures, ← c.number.ensures) c.if-number-eq0.true in
-    let keys : length a.set.session.digits.keys ≡ 76 = search rules in record { value = rw (c.cue_cause-refusal.ensures, c.cue_sample-sample.ensures, c.cue_key-key.ensures, accepted-cued _ _ _ zero, first-of-digit-is a.set a.position zero keys); first_in_tone = λ _. rw c.cue_sample-sample.ensures (first-of-digit a.set a.position zero keys) }
+cue_key-key-requires c = few-digits c.args.set c.args.position (sym (ap answer_number c.in_ok-cue_cause.ensures))
 
 pub returns : goal.returns
 unfolding cued
 returns c = let a = c.args in
-    let declined : cue_refusal_number (cue_cause a.set a.position) ≡ 0 → ⊥ = λ zero. c.if-number-eq0.false (rw (c.number.ensures, c.cue_cause-refusal.ensures) zero) in
-    record { value = rw c.cue_cause-refusal.ensures (sym (declined-cued _ _ _ declined)); first_in_tone = λ zero. absurd (declined (rw (← c.cue_cause-refusal.ensures) zero)) }
+    let taken = c.in_ok-cue_cause.ensures in
+    let zero : answer_number (cue_cause a.set a.position) ≡ 0 = sym (ap answer_number taken) in
+    let keys : length a.set.session.digits.keys ≡ 76 = search rules in record { value = rw (← taken, c.cue_sample-sample.ensures, c.cue_key-key.ensures, first-of-digit-is a.set a.position zero keys); first_in_tone = rw c.cue_sample-sample.ensures (first-of-digit a.set a.position zero keys) }

@@ -8,8 +8,8 @@ use Rattle.panel.proofs.shown.filled.Goals as goal
 
 pub returns-then-n-samples : goal.returns-then-n-samples
 returns-then-n-samples c = let a = c.args in
-    c.nothing.ensures ∙ no_room a.set (λ (k : ℕ). filled_shown k (fill a.set k)) a.n a.samples.now c.if-n-samples.true
+    c.nothing.ensures ∙ no_room a.set (λ (k : ℕ). filled_shown a.set k (fill a.set k)) a.n a.samples.now c.if-n-samples.true
 
 pub returns : goal.returns
 returns c = let a = c.args in
-    c.fill.ensures ∙ front-lent a.set (λ (k : ℕ). filled_shown k (fill a.set k)) a.n a.samples.now c.if-n-samples.false
+    c.fill.ensures ∙ front-lent a.set (λ (k : ℕ). filled_shown a.set k (fill a.set k)) a.n a.samples.now c.if-n-samples.false

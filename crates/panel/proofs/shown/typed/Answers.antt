@@ -8,8 +8,8 @@ use Rattle.panel.proofs.shown.typed.Goals as goal
 
 pub returns-then-n-outbox : goal.returns-then-n-outbox
 returns-then-n-outbox c = let a = c.args in
-    c.nothing.ensures ∙ no_room a.set (λ (k : ℕ). typed_shown (typed a.set a.byte a.carrier k)) a.n a.outbox.now c.if-n-outbox.true
+    c.nothing.ensures ∙ no_room a.set (λ (k : ℕ). typed_shown a.set (typed a.set a.byte a.carrier k)) a.n a.outbox.now c.if-n-outbox.true
 
 pub returns : goal.returns
 returns c = let a = c.args in
-    c.feed.ensures ∙ front-lent a.set (λ (k : ℕ). typed_shown (typed a.set a.byte a.carrier k)) a.n a.outbox.now c.if-n-outbox.false
+    c.feed.ensures ∙ front-lent a.set (λ (k : ℕ). typed_shown a.set (typed a.set a.byte a.carrier k)) a.n a.outbox.now c.if-n-outbox.false

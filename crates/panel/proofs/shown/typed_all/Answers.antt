@@ -17,5 +17,5 @@ returns-then-m-codes c = c.nothing-then-m-codes.ensures ∙ rw (le-leb _ _ c.if-
 pub returns : goal.returns
 returns c = let a = c.args in
     c.feed_all.ensures
-    ∙ both-lent a.set (λ (k l : ℕ). string_shown (length a.string.now) (typed_all a.set a.string.now a.carrier k l)) a.n a.m a.outbox.now a.codes.now
+    ∙ both-lent a.set (λ (k l : ℕ). string_shown a.set (length a.string.now) (typed_all a.set a.string.now a.carrier k l)) a.n a.m a.outbox.now a.codes.now
     c.if-n-outbox.false c.if-m-codes.false

@@ -32,12 +32,6 @@ bounds-codes-place-in-loop-i-2 c = rw (length-set, length-set) (omega (arith, c.
 pub overflow_add-at : goal.overflow_add-at
 overflow_add-at c = omega (arith, (typing-again _ _ _ _ _ _ _ _ _ _ c.loop-i.invariant c.loop-i-test.true c.requires.bytes_in_bounds c.requires.bytes_in_bounds_2 _ _ _ _ _ c.take_byte-t.ensures.value c.take_byte-t.ensures.out_after c.first.ensures c.second.ensures c.s12.ensures).few, c.loop-i-test.true, c.requires.bytes_len_bound)
 
-pub overflow_add-i : goal.overflow_add-i
-overflow_add-i c = omega (arith, c.loop-i-test.true, c.requires.bytes_len_bound)
-
-pub loop-i-smaller : goal.loop-i-smaller
-loop-i-smaller c = omega (arith, c.loop-i-test.true)
-
 pub loop-i-preserved : goal.loop-i-preserved
 loop-i-preserved c = typing-again _ _ _ _ _ _ _ _ _ _ c.loop-i.invariant c.loop-i-test.true c.requires.bytes_in_bounds c.requires.bytes_in_bounds_2 _ _ _ _ _ c.take_byte-t.ensures.value c.take_byte-t.ensures.out_after c.first.ensures c.second.ensures c.s12.ensures
 

@@ -1,5 +1,0 @@
--- `shown::cued` meets its contract: the call's answer, shown. Assumes nothing.
-use Rattle.panel.proofs.shown.cued.Goals as goal
-
-pub returns : goal.returns
-returns c = rw (c.show.ensures, c.number.ensures, c.cue-a.ensures.value)

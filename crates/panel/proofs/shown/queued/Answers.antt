@@ -1,5 +1,0 @@
--- `shown::queued` meets its contract: the call's answer, shown. Assumes nothing.
-use Rattle.panel.proofs.shown.queued.Goals as goal
-
-pub returns : goal.returns
-returns c = rw (c.show.ensures, c.number.ensures, c.queue_byte-a.ensures)
