@@ -3,6 +3,7 @@ ghost use Rattle.std.specs.Prelude.{◌≤◌};
 
 use crate::talk;
 use crate::talk::Talk;
+use session::SessionState;
 use set::Set;
 use std::io;
 use std::io::{ErrorKind, Write};
@@ -52,8 +53,7 @@ fn feed(set: Set, byte: u8) -> Set {
 }
 
 pub fn is_dialling(set: Set) -> bool {
-    let state = set.state();
-    state.number() == 1
+    set.state() == SessionState::Dialling
 }
 
 // Makes the fills from the dial line on, and writes their first `total` samples to a file, behind the

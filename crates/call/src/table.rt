@@ -87,20 +87,18 @@ fn put_seconds(page: &mut [u8], at: usize, samples: u32, rate: u32, width: usize
 
 fn put_digits(page: &mut [u8], at: usize, dialled: Set) -> usize {
     let digits = dialled.digits();
-    let keys = digits.keys;
-    let len = digits.len;
-    if len == 0 {
+    let keys = digits.held();
+    if keys.is_empty() {
         return at;
     }
     let k = text::put(page, at, b"digit  key          first             seconds\n");
-    put_keys(page, k, dialled, &keys, len)
+    put_keys(page, k, dialled, keys)
 }
 
-// The first `len` keys.
-fn put_keys(page: &mut [u8], at: usize, dialled: Set, keys: &[u8], len: usize) -> usize {
+fn put_keys(page: &mut [u8], at: usize, dialled: Set, keys: &[u8]) -> usize {
     let mut k = at;
     let mut i: usize = 0;
-    while i < keys.len() && i < len {
+    while i < keys.len() {
         let cued = cue::cue(dialled, play::at_most(i, u32::MAX));
         let key = cued.key;
         k = put_key(page, k, keys[i], key, cued.sample, dialled.rate());

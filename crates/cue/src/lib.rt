@@ -12,6 +12,7 @@ ghost use Rattle.session.specs.Session.{digits_held};
 ghost use Rattle.cue.specs.Cue.{cue_refusal_number, cue_cause, cued};
 
 use keys::Key;
+use session::SessionState;
 use set::Set;
 
 // Why a cue is declined, if it is.
@@ -67,16 +68,13 @@ fn cue_sample(position: u32, rate: u32) -> u64
 
 // The key of the digit at a position.
 fn cue_key(set: Set, position: u32) -> Option<Key>
-    requires { set.session.digits.len ≤ 76 }
     ensures { result ≡ dialled_key (digits_held set.session) position true }
 {
     let digits = set.digits();
-    let keys = digits.keys;
-    let len = digits.len;
-    let from: usize = 0;
-    tones::dialled_key(&keys[from..len], position as u64, true)
+    tones::dialled_key(digits.held(), position as u64, true)
 }
 
+#[tactic(auto, unfolding(crate::specs::Cue::cue_cause, session::specs::Session::state_number))]
 fn cue_cause(set: Set, position: u32) -> Refusal
     ensures { result ≡ cue_cause set position }
 {
@@ -84,7 +82,7 @@ fn cue_cause(set: Set, position: u32) -> Refusal
     let state = session.state;
     let len = session.digits.len;
     if set.sound() {
-        if (state.number() == 1) & ((position as usize) < len) {
+        if (state == SessionState::Dialling) & ((position as usize) < len) {
             return Refusal::Accepted;
         }
         return Refusal::Position;

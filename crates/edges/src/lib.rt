@@ -6,6 +6,7 @@ ghost use Rattle.std.specs.Prelude.{◌≡◌, ◌≤◌, leb, length};
 ghost use Rattle.set.specs.Set.{buffer};
 ghost use Rattle.edges.specs.Icon.{icon_of, shown, icon_after, IsFirst, FirstIs};
 
+use session::SessionState;
 use set::{Refusal, Set};
 
 #[derive(Clone, Copy)]
@@ -38,11 +39,11 @@ pub fn icon(set: Set) -> Shown
     }
 }
 
+#[tactic(auto, unfolding(crate::specs::Icon::icon_of, crate::specs::Icon::icon_if, session::specs::Session::state_number))]
 fn icon_number(set: Set) -> u8
     ensures { result ≡ icon_of set }
 {
-    let state = set.state();
-    if state.number() == 3 {
+    if set.state() == SessionState::Connected {
         return 10;
     }
     set.stage()

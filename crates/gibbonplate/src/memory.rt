@@ -238,7 +238,7 @@ pub fn store(
         flag(p.in_command_mode),
         p.plus_count,
         flag(p.carrier_up),
-        state.number(),
+        u8::from(state),
         e.shown,
         x.number,
         x.ring,

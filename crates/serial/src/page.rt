@@ -9,11 +9,10 @@ use uart::Chip;
 pub fn put_told(out: &mut [u8], at: usize, chip: Chip, refusal: u8, value: u8, sent: &[u8]) -> usize
     ensures { page_of out.new result ≡ told (page_of out.old at) chip refusal value sent.now }
 {
-    let state = chip.state();
     let mut k = report::put_number(out, at, refusal as u64);
     k = report::put_number(out, k, value as u64);
     k = report::put_mode(out, k, chip.in_command_mode());
-    k = report::put_number(out, k, state.number() as u64);
+    k = report::put_number(out, k, u8::from(chip.state()) as u64);
     k = report::put_number(out, k, chip.stage() as u64);
     k = report::put_number(out, k, chip.m() as u64);
     k = put_sent(out, k, sent);

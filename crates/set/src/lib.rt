@@ -172,10 +172,11 @@ fn sending_for(control: Control, sending: Sending) -> Sending
 }
 
 // State 3 is the line up.
+#[tactic(auto, unfolding(session::specs::Session::state_number))]
 fn is_up(state: SessionState) -> bool
     ensures { result ≡ is_up_in state }
 {
-    state.number() == 3
+    state == SessionState::Connected
 }
 
 // The sender is fresh at the moment the line goes up.
@@ -213,21 +214,19 @@ impl Set {
     }
 
     // 01's list. Every call but the plain readers asks it first.
+    #[tactic(auto, unfolding(crate::specs::Sound::sound))]
     pub fn sound(self) -> bool
         ensures { result ≡ sound self }
     {
         let session = self.session;
         let processor = self.processor;
         let digits = session.digits;
-        let keys = digits.keys;
-        let len = digits.len;
         let stage = session.stage;
         let sending = self.sending;
-        if len > 76 {
+        if digits.len > 76 {
             return false;
         }
-        let from: usize = 0;
-        soundness::sound_state(stage, &keys[from..len], self.rate)
+        soundness::sound_state(stage, digits.held(), self.rate)
             & (processor.sound()
                 & ((session.m <= MAX_SAMPLES)
                     & ((session.shown <= 9) & soundness::sending::sending_ok(sending, self.rate))))

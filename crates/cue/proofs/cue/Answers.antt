@@ -2,17 +2,13 @@
 use mathlib.Core.Path.{◌≡◌, sym}
 use lib.ListN.{length}
 use Rattle.cue.specs.Cue.{cue_refusal_number, cue_cause, cued}
-use Rattle.cue.proofs.Cueing.{in-limits, few-digits, accepted-cued, declined-cued, first-of-digit, first-of-digit-is}
+use Rattle.cue.proofs.Cueing.{in-limits, accepted-cued, declined-cued, first-of-digit, first-of-digit-is}
 use borrow.Author.Rules.{rules}
 use Rattle.cue.proofs.cue.Goals as goal
 
 pub cue_sample-sample-requires : goal.cue_sample-sample-requires
 cue_sample-sample-requires c = let a = c.args in
     in-limits a.set a.position (rw (← c.cue_cause-refusal.ensures, ← c.number.ensures) c.if-number-eq0.true)
-
-pub cue_key-key-requires : goal.cue_key-key-requires
-cue_key-key-requires c = let a = c.args in
-    few-digits a.set a.position (rw (← c.cue_cause-refusal.ensures, ← c.number.ensures) c.if-number-eq0.true)
 
 pub returns-then-number-eq0 : goal.returns-then-number-eq0
 unfolding cued

@@ -10,7 +10,7 @@ returns c = let p = laid _ _ _ (c.plain-x.ensures.value, c.plain-x.ensures.resul
       c.flag-5.ensures,
       c.flag-4.ensures,
       c.flag-3.ensures,
-      c.number.ensures,
+      c.from.ensures,
       c.flag-2.ensures,
       c.flag.ensures,
       c.plain-x.ensures.value,
