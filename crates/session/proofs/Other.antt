@@ -1,5 +1,5 @@
 -- In another state than Dialling a fill leaves the session, writes zeros and lights no key, and nothing rings. Case by case. Assumes nothing.
-use Rattle.std.specs.Prelude.{ℕ, ◌≡◌, refl, Option, None, List, Float}
+use Rattle.std.specs.Prelude.{ℕ, ◌≡◌, refl, None}
 use Rattle.overture.specs.Iteration.{zeros}
 use Rattle.stage.specs.declared.StageState.{StageState}
 use Rattle.session.specs.declared.SessionState.{SessionState}
