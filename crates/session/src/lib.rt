@@ -27,7 +27,7 @@ pub struct Session {
     pub digits: Digits,
     // samples written since the dial line
     pub m: u32,
-    // the number of the stage shown; 0 for none
+    // the number of the stage shown; 0 for none. C lends this memory, and any number in it has its answer, so it is no Option
     pub shown: u8,
     pub stage: StageState,
 }

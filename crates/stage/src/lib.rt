@@ -106,7 +106,7 @@ pub struct Shown {
 }
 
 impl Stage {
-    // The stage that follows; Connected has no end.
+    // The stage that follows; Connected has no end. By the number it would need a way back from a number.
     pub fn next(self) -> Stage
         ensures { result ≡ next_stage self }
     {

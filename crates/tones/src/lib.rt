@@ -29,7 +29,7 @@ pub struct Mixed {
     pub b: Nco,
 }
 
-// A digit's two frequencies, and its key.
+// A digit's two frequencies, and its key. No Option of both: where there is no key the oscillators have 1 Hz.
 #[derive(Drop)]
 pub struct KeyTones {
     pub low: f64,
@@ -213,7 +213,7 @@ pub fn dial_step(dial: Dial, n: u32, digits: &[u8], rate: u32) -> Dialled
     }
 }
 
-// One sample of ANSam, at its sign.
+// One sample of ANSam, at its sign. Apart from `two_tones`, which steps by `next`: there the compiler pairs the sines.
 #[tactic(auto, unfolding(crate::specs::Mixed::answer_of))]
 pub fn answer_tone(carrier: Nco, env: Nco, sign: f64) -> Mixed
     ensures { result ≡ answer_of carrier env sign }
