@@ -2,6 +2,7 @@
 ghost use Rattle.std.specs.Prelude.{◌≤◌};
 
 use crate::talk;
+use session::SessionState;
 use set::Set;
 use std::io;
 use std::io::Write;
@@ -40,8 +41,7 @@ fn feed(set: Set, byte: u8) -> Set {
 }
 
 pub fn is_dialling(set: Set) -> bool {
-    let state = set.state();
-    state.number() == 1
+    set.state() == SessionState::Dialling
 }
 
 // Makes the fills from the dial line on, and writes their first `total` samples to a file, behind the

@@ -82,15 +82,15 @@ fn put_seconds(page: &mut Table, samples: u32, rate: u32, width: usize) {
 
 fn put_digits(page: &mut Table, dialled: Set) {
     let digits = dialled.digits();
-    if digits.len > 0 {
+    let keys = digits.held();
+    if !keys.is_empty() {
         page.put(b"digit  key          first             seconds\n");
-        put_keys(page, dialled, &digits.keys, digits.len);
+        put_keys(page, dialled, keys);
     }
 }
 
-// The first `len` keys.
-fn put_keys(page: &mut Table, dialled: Set, keys: &[u8], len: usize) {
-    for (i, digit) in keys.iter().take(len).enumerate() {
+fn put_keys(page: &mut Table, dialled: Set, keys: &[u8]) {
+    for (i, digit) in keys.iter().enumerate() {
         let (key, sample) = match cue::cue(dialled, play::at_most(i, u32::MAX)) {
             Ok(cued) => (cued.key, cued.sample),
             Err(_) => (None, 0),

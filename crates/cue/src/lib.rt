@@ -14,6 +14,7 @@ ghost use Rattle.cue.specs.Cue.{cue_cause, cued};
 
 use keys::Key;
 use refusal::Refusal;
+use session::SessionState;
 use set::Set;
 
 #[derive(Clone, Copy)]
@@ -47,14 +48,13 @@ fn cue_sample(position: u32, rate: u32) -> u64
 
 // The key of the digit at a position.
 fn cue_key(set: Set, position: u32) -> Option<Key>
-    requires { set.session.digits.len ≤ 76 }
     ensures { result ≡ dialled_key (digits_held set.session) position true }
 {
     let digits = set.digits();
-    tones::dialled_key(&digits.keys[..digits.len], position as u64, true)
+    tones::dialled_key(digits.held(), position as u64, true)
 }
 
-#[tactic(auto, unfolding(crate::specs::Cue::cue_cause))]
+#[tactic(auto, unfolding(crate::specs::Cue::cue_cause, session::specs::Session::state_number))]
 fn cue_cause(set: Set, position: u32) -> Result<(), Refusal>
     ensures { result ≡ cue_cause set position }
 {
@@ -63,7 +63,7 @@ fn cue_cause(set: Set, position: u32) -> Result<(), Refusal>
     }
     let state = set.session.state;
     let len = set.session.digits.len;
-    if (state.number() == 1) & ((position as usize) < len) {
+    if (state == SessionState::Dialling) & ((position as usize) < len) {
         return Ok(());
     }
     Err(Refusal::Position)

@@ -7,6 +7,7 @@ ghost use Rattle.set.specs.Set.{fill, buffer, set_filled};
 ghost use Rattle.edges.specs.Icon.{icon_of, shown, icon_after, IsFirst, FirstIs};
 
 use refusal::Refusal;
+use session::SessionState;
 use set::Set;
 
 // The number of the icon shown: the stage's, or 10 once the line is up. It is worked out of two fields, so
@@ -21,11 +22,11 @@ pub fn icon(set: Set) -> Result<u8, Refusal>
     Ok(icon_number(set))
 }
 
+#[tactic(auto, unfolding(crate::specs::Icon::icon_of, crate::specs::Icon::icon_if, session::specs::Session::state_number))]
 fn icon_number(set: Set) -> u8
     ensures { result ≡ icon_of set }
 {
-    let state = set.state();
-    if state.number() == 3 {
+    if set.state() == SessionState::Connected {
         return 10;
     }
     set.stage()

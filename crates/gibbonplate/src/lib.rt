@@ -315,8 +315,7 @@ pub extern "C" fn gibbonplate_state_in(
     ensures { result ≡ state_number (loaded (memory longs.now counts.now reals.now marks.now line.now keys.now queue.now)).session.state }
 {
     let set = memory::load(longs, counts, reals, marks, line, keys, queue);
-    let state = set.state();
-    state.number()
+    u8::from(set.state())
 }
 
 #[unsafe(no_mangle)]

@@ -74,7 +74,7 @@ impl Memory {
                 u8::from(p.in_command_mode),
                 p.plus_count,
                 u8::from(p.carrier_up),
-                e.state.number(),
+                u8::from(e.state),
                 e.shown,
                 x.number,
                 x.ring,

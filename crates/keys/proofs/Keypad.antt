@@ -1,13 +1,11 @@
 -- A key has one of the four rows and one of the four columns, so its tones are one of the four low and one of the four high ones; and at its row
 -- and column the keypad has the key itself. Assumes nothing.
 use Prim.Native.Nat.{ℕ, zero, suc, ◌+◌, ◌*◌, ◌/◌, ◌%◌, ◌<◌, ◌≤◌}
-use native.Mathlib.Nat.{not-suc-le-zero, le_of_suc-le-suc}
 use native.Mathlib.Omega.{arith}
 use mathlib.Core.Path.{◌≡◌, refl, sym, ap, ◌∙◌}
 use mathlib.Core.Bool.{Bool, true, false, cond}
-use mathlib.Core.List.{List, [], ◌∷◌, map}
+use mathlib.Core.List.{List}
 use lib.Dec.{eqb}
-use lib.Ieee.{nan}
 use lib.ListN.{length, get_or}
 use borrow.Author.Tests.{ltb-true, eqb-true}
 use Rattle.std.specs.Prelude.{Some, None}
@@ -18,12 +16,6 @@ use Rattle.keys.specs.Keys.{rows, columns, keypad, place_in, key_place, place_of
 -- what is found among some keys is the one at its place
 at_its_place : (b : ℕ) (ks : List ℕ) → place_in b ks < length ks → get_or ks (place_in b ks) 0 ≡ b
 at_its_place b ks h = eqb-true _ b (passes_at_first (λ k. eqb k b) ks 0 h)
-
--- the frequencies as the code has them
-pub tone-at : (ns : List ℕ) (k : ℕ) → k < length ns → get_or (map hertz ns) k nan ≡ hertz (get_or ns k 0)
-tone-at [] k h = absurd (not-suc-le-zero h)
-tone-at (n ∷ ns) zero h = refl
-tone-at (n ∷ ns) (suc k) h = tone-at ns k (le_of_suc-le-suc h)
 
 each-of-four : (P : ℕ → Type 0) → P 0 → P 1 → P 2 → P 3 → (k : ℕ) → k < 4 → P k
 each-of-four P p q r s zero h = p

@@ -1,6 +1,6 @@
 -- 01, "Keys and frames": Q.23's keypad with the two tones of each key, and the digits of a dial line. And 02, E8: a key's row and column.
-use Rattle.std.specs.Prelude.{ℕ, ◌+◌, ◌-◌, ◌*◌, ◌/◌, ◌%◌, ◌<◌, ◌≡◌, Bool, true, false, cond, ◌&&◌, List, [], ◌∷◌, ◌++◌, map, ◌==◌, ltb, Float, pos, length, get_or, take, replicate, Option, Some, None}
-use Rattle.std.specs.List.{position_or_len, position}
+use Rattle.std.specs.Prelude.{ℕ, ◌+◌, ◌-◌, ◌*◌, ◌/◌, ◌%◌, ◌<◌, ◌≡◌, Bool, true, false, List, [], ◌∷◌, ◌++◌, map, ◌==◌, ltb, nat_lt, cond, set, Float, pos, length, get_or, take, replicate, Option, Some, None}
+use Rattle.std.specs.List.{filter, list_all, position_or_len, position}
 use Rattle.std.specs.Float.{binary64}
 use Rattle.std.specs.Float.Ieee.{of_int}
 use Rattle.ascii.specs.Ascii.{ascii}
@@ -65,16 +65,14 @@ NamesKey b None = Unit {0}
 
 -- the keys among the bytes, others dropped
 unfoldable pub keys_of : List ℕ → List ℕ
-keys_of [] = []
-keys_of (b ∷ bs) = cond (is_key b) (b ∷ keys_of bs) (keys_of bs)
+keys_of bs = filter is_key bs
 
 -- digits are the line's bytes after ATDT, uppercased, others dropped
 unfoldable pub digits_of : List ℕ → List ℕ
 digits_of line = keys_of (map upper line)
 
 unfoldable pub all_keys : List ℕ → Bool
-all_keys [] = true
-all_keys (b ∷ bs) = is_key b && all_keys bs
+all_keys bs = list_all is_key bs
 
 -- 76 places, zeros behind the digits
 unfoldable pub padded : List ℕ → List ℕ
@@ -82,6 +80,10 @@ padded ds = ds ++ replicate (76 - length ds) 0
 
 abbrev pub held : List ℕ → Digits
 held ds = record { keys = padded ds; len = length ds }
+
+-- one digit more, where there is room for it
+abbrev pub with_digit : Digits → ℕ → Digits
+with_digit d digit = cond (nat_lt d.len 76) (record { keys = set d.keys d.len digit; len = d.len + 1 }) d
 
 -- their number is at most 76
 abbrev pub dialled_of : List ℕ → Digits

@@ -1,8 +1,8 @@
 // The keypad of Q.23, and the digits of a dial line.
 #![tactic(auto)]
 
-ghost use Rattle.std.specs.Prelude.{◌≡◌};
-ghost use Rattle.keys.specs.Keys.{place_of, is_key, tones_of, NamesKey, all_keys, dialled_of};
+ghost use Rattle.std.specs.Prelude.{◌≡◌, take};
+ghost use Rattle.keys.specs.Keys.{place_of, is_key, tones_of, NamesKey, all_keys, with_digit, dialled_of};
 
 // Row by row, four keys to a row.
 const KEYPAD: [u8; 16] = *b"123A456B789C*0#D";
@@ -26,11 +26,30 @@ pub struct Tones {
     pub key: Key,
 }
 
-// The digits of a call: the first `len` bytes, and zeros behind them.
+// The digits of a call: the first `len` bytes, and zeros behind them. C lends the memory of a set, so any count may stand there.
 #[derive(Clone, Copy)]
 pub struct Digits {
     pub keys: [u8; 76],
     pub len: usize,
+}
+
+impl Digits {
+    // The digits that are held. A count beyond the array is that of the whole array.
+    pub fn held(&self) -> &[u8]
+        ensures { result.now ≡ take self.now.len self.now.keys }
+    {
+        &self.keys[..self.len.min(76)]
+    }
+
+    // One digit more, where there is room for it.
+    fn push(&mut self, digit: u8)
+        ensures { self.new ≡ with_digit self.old digit }
+    {
+        if self.len < 76 {
+            self.keys[self.len] = digit;
+            self.len += 1;
+        }
+    }
 }
 
 // Where a key stands on the keypad, counted row by row.
@@ -66,33 +85,26 @@ pub fn dtmf_freqs(b: u8) -> Option<Tones>
 }
 
 // The digits of a dial line's bytes after ATDT: uppercased, others dropped, order kept. A line has no more than 76 such bytes.
+#[tactic(auto, using(crate::proofs::Line::steps))]
 pub fn dialled(line: &[u8]) -> Digits
     ensures { result ≡ dialled_of line.now }
 {
-    let mut keys = [0u8; 76];
-    let mut len: usize = 0;
-    let mut i: usize = 0;
-    while i < line.len() {
-        let b = ascii::uppercase(line[i]);
-        i += 1;
+    let mut digits = Digits {
+        keys: [0u8; 76],
+        len: 0,
+    };
+    for b in line {
+        let b = ascii::uppercase(*b);
         if is_key(b) {
-            if len < 76 {
-                keys[len] = b;
-                len += 1;
-            }
+            digits.push(b);
         }
     }
-    Digits { keys, len }
+    digits
 }
 
+#[tactic(auto, unfolding(crate::specs::Keys::all_keys))]
 pub fn all_keys(digits: &[u8]) -> bool
     ensures { result ≡ all_keys digits.now }
 {
-    let mut all = true;
-    let mut i: usize = 0;
-    while i < digits.len() {
-        all = all & is_key(digits[i]);
-        i += 1;
-    }
-    all
+    digits.iter().all(|b| is_key(*b))
 }

@@ -295,11 +295,10 @@ fn nothing(set: Set) -> Shown
 fn show(set: Set, refusal: u8, reply: Reply, second: Second, prints: bool) -> Shown
     ensures { result ≡ shown_of set refusal reply second prints }
 {
-    let state = set.state();
     let report = Report {
         refusal,
         in_command_mode: set.in_command_mode(),
-        state: state.number(),
+        state: u8::from(set.state()),
         stage: set.stage(),
         m: set.m(),
         first: reply.first(),

@@ -9,11 +9,10 @@ use uart::Chip;
 pub fn put_told(answers: &mut Answers, chip: Chip, refusal: u8, value: u8, sent: &[u8])
     ensures { answers.new ≡ told answers.old chip refusal value sent.now }
 {
-    let state = chip.state();
     report::put_number(answers, refusal as u64);
     report::put_number(answers, value as u64);
     report::put_mode(answers, chip.in_command_mode());
-    report::put_number(answers, state.number() as u64);
+    report::put_number(answers, u8::from(chip.state()) as u64);
     report::put_number(answers, chip.stage() as u64);
     report::put_number(answers, chip.m() as u64);
     put_sent(answers, sent);

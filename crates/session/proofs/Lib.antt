@@ -1,2 +1,3 @@
 -- What the functions' proofs cite.
 pub mod Dialled
+pub mod Other

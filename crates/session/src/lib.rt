@@ -12,12 +12,13 @@ ghost use Rattle.session.specs.declared.SessionState.TheVariants.{Dialling};
 use keys::{Digits, Key};
 use stage::{Shown, Stage, StageState};
 
-#[derive(Clone, Copy)]
+// By 01's numbers.
+#[derive(Clone, Copy, PartialEq, Eq)]
 pub enum SessionState {
-    Idle,
-    Dialling,
-    Answering,
-    Connected,
+    Idle = 0,
+    Dialling = 1,
+    Answering = 2,
+    Connected = 3,
 }
 
 #[derive(Clone, Copy)]
@@ -26,7 +27,7 @@ pub struct Session {
     pub digits: Digits,
     // samples written since the dial line
     pub m: u32,
-    // the number of the stage shown; 0 for none
+    // the number of the stage shown; 0 for none. C lends this memory, and any number in it has its answer, so it is no Option
     pub shown: u8,
     pub stage: StageState,
 }
@@ -38,17 +39,12 @@ pub struct Filled {
     pub key: Option<Key>,
 }
 
-impl SessionState {
-    // 01's number.
-    pub fn number(self) -> u8
-        ensures { result ≡ state_number self }
-    {
-        match self {
-            SessionState::Idle => 0,
-            SessionState::Dialling => 1,
-            SessionState::Answering => 2,
-            SessionState::Connected => 3,
-        }
+impl From<SessionState> for u8 {
+    ghost from_gives = { λ state number. number ≡ state_number state };
+
+    #[tactic(auto, unfolding(crate::specs::Session::state_number))]
+    fn from(state: SessionState) -> u8 {
+        state as u8
     }
 }
 
@@ -56,38 +52,13 @@ fn ring(stage: StageState) -> u8
     ensures { result ≡ ring_of stage }
 {
     match stage {
-        StageState::Ringback {
-            a: _,
-            b: _,
-            n: _,
-            ring,
-        } => ring,
-        StageState::OffHook { rng: _, n: _ } => 0,
-        StageState::DialTone { a: _, b: _, n: _ } => 0,
-        StageState::Dialling {
-            digit_i: _,
-            in_tone: _,
-            a: _,
-            b: _,
-            n: _,
-        } => 0,
-        StageState::Ci(_) => 0,
-        StageState::Ansam {
-            carrier: _,
-            env: _,
-            n: _,
-        } => 0,
-        StageState::CmJm(_) => 0,
-        StageState::Cj {
-            fsk: _,
-            silence_n: _,
-        } => 0,
-        StageState::Training(_) => 0,
-        StageState::Connected => 0,
+        StageState::Ringback { ring, .. } => ring,
+        _ => 0,
     }
 }
 
 // A session with nothing dialled: no digits, and no samples to come.
+#[tactic(auto, unfolding(keys::specs::Keys::padded))]
 fn quiet_in(state: SessionState) -> Session
     ensures { result ≡ quiet_in state }
 {
@@ -104,17 +75,6 @@ fn quiet_in(state: SessionState) -> Session
     }
 }
 
-// How many digits are held: a count beyond the array is that of the whole array.
-fn held_count(digits: Digits) -> usize
-    ensures { (result ≤ 76) × (take result digits.keys ≡ take digits.len digits.keys) }
-{
-    let len = digits.len;
-    if len > 76 {
-        return 76;
-    }
-    len
-}
-
 impl Session {
     pub fn new() -> Session
         ensures { result ≡ idle }
@@ -123,16 +83,14 @@ impl Session {
     }
 
     // Starts the overture for the line's bytes after ATDT. At a rate of 01 it has one length, T, with demand 3's bounds.
+    #[tactic(auto, unfolding(crate::specs::Session::dialling))]
     pub fn dial(line: &[u8], rate: u32) -> Session
         ensures value { result ≡ dialling line.now rate }
         ensures has_length { min_rate ≤ rate → rate ≤ max_rate → HasLength (digits_held result) rate (total rate result.digits.len) }
         ensures total_bounds { min_rate ≤ rate → rate ≤ max_rate → TotalBounds rate result.digits.len }
     {
         let digits = keys::dialled(line);
-        let keys = digits.keys;
-        let len = digits.len;
-        let from: usize = 0;
-        let stage = stage::enter_state(Stage::OffHook, &keys[from..len], rate);
+        let stage = stage::enter_state(Stage::OffHook, digits.held(), rate);
         Session {
             state: SessionState::Dialling,
             digits,
@@ -142,12 +100,14 @@ impl Session {
         }
     }
 
+    #[tactic(auto, unfolding(crate::specs::Session::answering))]
     pub fn answer() -> Session
         ensures { result ≡ answering }
     {
         quiet_in(SessionState::Answering)
     }
 
+    #[tactic(auto, unfolding(crate::specs::Session::idle))]
     pub fn hangup() -> Session
         ensures { result ≡ idle }
     {
@@ -155,28 +115,21 @@ impl Session {
     }
 
     // The session after a fill in Dialling, of which what is shown and the next state are given.
+    #[tactic(auto, unfolding(crate::specs::Session::connects))]
     fn showing(self, shown: Shown, b: usize, next: StageState) -> Session
         ensures { result ≡ showing self shown b next }
     {
-        let digits = self.digits;
-        let stage = shown.stage;
-        let number = stage.number();
-        let m = runs::saturating_add(self.m, b);
-        if number == 10 {
-            return Session {
-                state: SessionState::Connected,
-                digits,
-                m,
-                shown: 0,
-                stage: next,
-            };
-        }
+        let (state, number) = if shown.stage == Stage::Connected {
+            (SessionState::Connected, 0)
+        } else {
+            (SessionState::Dialling, u8::from(shown.stage))
+        };
         Session {
-            state: SessionState::Dialling,
-            digits,
-            m,
+            state,
+            m: runs::saturating_add(self.m, b),
             shown: number,
             stage: next,
+            ..self
         }
     }
 
@@ -186,44 +139,24 @@ impl Session {
         ensures key_value { result.key ≡ key_in Dialling self (length out.old) rate }
         ensures out_after { out.new ≡ written_in Dialling self (length out.old) rate }
     {
-        let digits = self.digits;
-        let keys = digits.keys;
-        let len = held_count(digits);
-        let stage = self.stage;
-        let from: usize = 0;
         let b = out.len();
-        let w = overture::read(stage, &keys[from..len], rate, out);
-        let shown = w.shown;
-        let key = shown.key;
-        let next = w.state;
-        let session = self.showing(shown, b, next);
-        Filled { session, key }
+        let w = overture::read(self.stage, self.digits.held(), rate, out);
+        Filled {
+            session: self.showing(w.shown, b, w.state),
+            key: w.shown.key,
+        }
     }
 
     // A fill. In Connected, where the set plays its sender (02, E10) and none comes here, it writes zeros.
+    #[tactic(auto, using(crate::proofs::Other::silent), unfolding(crate::specs::Session::filled, crate::specs::Session::written, crate::specs::Session::key_after))]
     pub fn process_out(self, rate: u32, out: &mut [f32]) -> Filled
         ensures session_value { result.session ≡ filled self (length out.old) rate }
         ensures key_value { result.key ≡ key_after self (length out.old) rate }
         ensures out_after { out.new ≡ written self (length out.old) rate }
     {
-        let state = self.state;
-        match state {
+        match self.state {
             SessionState::Dialling => self.perform(rate, out),
-            SessionState::Idle => {
-                overture::silence(out);
-                Filled {
-                    session: self,
-                    key: None,
-                }
-            }
-            SessionState::Answering => {
-                overture::silence(out);
-                Filled {
-                    session: self,
-                    key: None,
-                }
-            }
-            SessionState::Connected => {
+            _ => {
                 overture::silence(out);
                 Filled {
                     session: self,
@@ -233,16 +166,13 @@ impl Session {
         }
     }
 
+    #[tactic(auto, using(crate::proofs::Other::silent), unfolding(crate::specs::Session::ring_number))]
     pub fn ring_number(self) -> u8
         ensures { result ≡ ring_number self }
     {
-        let state = self.state;
-        let stage = self.stage;
-        match state {
-            SessionState::Dialling => ring(stage),
-            SessionState::Idle => 0,
-            SessionState::Answering => 0,
-            SessionState::Connected => 0,
+        match self.state {
+            SessionState::Dialling => ring(self.stage),
+            _ => 0,
         }
     }
 }

@@ -99,10 +99,11 @@ fn sending_for(control: Option<Control>, sending: Sending) -> Sending
 }
 
 // State 3 is the line up.
+#[tactic(auto, unfolding(session::specs::Session::state_number))]
 fn is_up(state: SessionState) -> bool
     ensures { result ≡ is_up_in state }
 {
-    state.number() == 3
+    state == SessionState::Connected
 }
 
 // The sender is fresh at the moment the line goes up.
@@ -138,6 +139,7 @@ impl Set {
     }
 
     // 01's list. Every call but the plain readers asks it first.
+    #[tactic(auto, unfolding(crate::specs::Sound::sound))]
     pub fn sound(self) -> bool
         ensures { result ≡ sound self }
     {
@@ -146,7 +148,7 @@ impl Set {
         if digits.len > 76 {
             return false;
         }
-        soundness::sound_state(session.stage, &digits.keys[..digits.len], self.rate)
+        soundness::sound_state(session.stage, digits.held(), self.rate)
             & (self.processor.sound()
                 & ((session.m <= MAX_SAMPLES)
                     & ((session.shown <= 9)

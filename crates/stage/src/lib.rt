@@ -35,18 +35,27 @@ pub const ANSAM_S: f64 = 3.0;
 
 pub const CJ_SILENCE_S: f64 = 0.075;
 
-#[derive(Clone, Copy)]
+// By 01's numbers.
+#[derive(Clone, Copy, PartialEq, Eq)]
 pub enum Stage {
-    OffHook,
-    DialTone,
-    Dialling,
-    Ringback,
-    Ci,
-    Ansam,
-    CmJm,
-    Cj,
-    Training,
-    Connected,
+    OffHook = 1,
+    DialTone = 2,
+    Dialling = 3,
+    Ringback = 4,
+    Ci = 5,
+    Ansam = 6,
+    CmJm = 7,
+    Cj = 8,
+    Training = 9,
+    Connected = 10,
+}
+
+impl From<Stage> for u8 {
+    ghost from_gives = { λ stage number. number ≡ stage_number stage };
+
+    fn from(stage: Stage) -> u8 {
+        stage as u8
+    }
 }
 
 #[derive(Clone, Copy)]
@@ -97,24 +106,7 @@ pub struct Shown {
 }
 
 impl Stage {
-    // 01's number.
-    pub fn number(self) -> u8
-        ensures { result ≡ stage_number self }
-    {
-        match self {
-            Stage::OffHook => 1,
-            Stage::DialTone => 2,
-            Stage::Dialling => 3,
-            Stage::Ringback => 4,
-            Stage::Ci => 5,
-            Stage::Ansam => 6,
-            Stage::CmJm => 7,
-            Stage::Cj => 8,
-            Stage::Training => 9,
-            Stage::Connected => 10,
-        }
-    }
-
+    // The stage that follows; Connected has no end. By the number it would need a way back from a number.
     pub fn next(self) -> Stage
         ensures { result ≡ next_stage self }
     {
@@ -139,32 +131,14 @@ impl StageState {
         ensures { result ≡ stage_of self }
     {
         match self {
-            StageState::OffHook { rng: _, n: _ } => Stage::OffHook,
-            StageState::DialTone { a: _, b: _, n: _ } => Stage::DialTone,
-            StageState::Dialling {
-                digit_i: _,
-                in_tone: _,
-                a: _,
-                b: _,
-                n: _,
-            } => Stage::Dialling,
-            StageState::Ringback {
-                a: _,
-                b: _,
-                n: _,
-                ring: _,
-            } => Stage::Ringback,
+            StageState::OffHook { .. } => Stage::OffHook,
+            StageState::DialTone { .. } => Stage::DialTone,
+            StageState::Dialling { .. } => Stage::Dialling,
+            StageState::Ringback { .. } => Stage::Ringback,
             StageState::Ci(_) => Stage::Ci,
-            StageState::Ansam {
-                carrier: _,
-                env: _,
-                n: _,
-            } => Stage::Ansam,
+            StageState::Ansam { .. } => Stage::Ansam,
             StageState::CmJm(_) => Stage::CmJm,
-            StageState::Cj {
-                fsk: _,
-                silence_n: _,
-            } => Stage::Cj,
+            StageState::Cj { .. } => Stage::Cj,
             StageState::Training(_) => Stage::Training,
             StageState::Connected => Stage::Connected,
         }
@@ -178,31 +152,9 @@ impl StageState {
             StageState::Dialling {
                 digit_i,
                 in_tone,
-                a: _,
-                b: _,
-                n: _,
+                ..
             } => tones::dialled_key(digits, digit_i, in_tone),
-            StageState::OffHook { rng: _, n: _ } => None,
-            StageState::DialTone { a: _, b: _, n: _ } => None,
-            StageState::Ringback {
-                a: _,
-                b: _,
-                n: _,
-                ring: _,
-            } => None,
-            StageState::Ci(_) => None,
-            StageState::Ansam {
-                carrier: _,
-                env: _,
-                n: _,
-            } => None,
-            StageState::CmJm(_) => None,
-            StageState::Cj {
-                fsk: _,
-                silence_n: _,
-            } => None,
-            StageState::Training(_) => None,
-            StageState::Connected => None,
+            _ => None,
         }
     }
 
@@ -225,6 +177,7 @@ impl StageState {
 }
 
 // A stage's state before its first sample.
+#[tactic(auto, unfolding(crate::specs::Enter::enter_of))]
 pub fn enter_state(stage: Stage, digits: &[u8], rate: u32) -> StageState
     ensures { result ≡ enter_of stage digits.now rate }
 {

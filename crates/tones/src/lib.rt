@@ -9,6 +9,7 @@ ghost use Rattle.tones.specs.Dial.{tones_for, digit_tones, dialled_key, pair_sta
 
 use keys::{Key, Tones};
 use nco::Nco;
+use schedule::DiallingPhase;
 
 const ANSAM_AM_DEPTH: f64 = 0.3;
 
@@ -28,7 +29,7 @@ pub struct Mixed {
     pub b: Nco,
 }
 
-// A digit's two frequencies, and its key.
+// A digit's two frequencies, and its key. No Option of both: where there is no key the oscillators have 1 Hz.
 #[derive(Drop)]
 pub struct KeyTones {
     pub low: f64,
@@ -53,6 +54,7 @@ pub struct Dialled {
 }
 
 // The click's noise: 64 bits of xorshift.
+#[tactic(auto, unfolding(crate::specs::Samples::shifted))]
 pub fn shift(x: u64) -> u64
     ensures { result ≡ shifted x }
 {
@@ -69,12 +71,14 @@ pub fn click_sample(rng: u64, t: f64) -> f64
     n * OFF_HOOK_AMPLITUDE * math::exp(t / OFF_HOOK_TAU_S)
 }
 
+#[tactic(auto, unfolding(crate::specs::Samples::mixed))]
 pub fn mix(a: f64, b: f64) -> f64
     ensures { result ≡ mixed a b }
 {
     a * TWO_TONE_AMPLITUDE + b * TWO_TONE_AMPLITUDE
 }
 
+#[tactic(auto, unfolding(crate::specs::Samples::ansam_sample))]
 pub fn ansam_sample(carrier: f64, env: f64, sign: f64) -> f64
     ensures { result ≡ ansam_sample carrier env sign }
 {
@@ -96,6 +100,7 @@ pub fn two_tones(a: Nco, b: Nco) -> Mixed
 }
 
 // The same in tone; in a gap they rest.
+#[tactic(auto, unfolding(crate::specs::Mixed::gated_of))]
 pub fn gated(on: bool, a: Nco, b: Nco) -> Mixed
     ensures { result ≡ gated_of on a b }
 {
@@ -105,121 +110,104 @@ pub fn gated(on: bool, a: Nco, b: Nco) -> Mixed
     Mixed { sample: 0.0, a, b }
 }
 
-fn key_tones(tones: Option<Tones>) -> KeyTones
-    ensures { result ≡ tones_for tones }
-{
-    match tones {
-        Some(Tones { low, high, key }) => KeyTones {
-            low,
-            high,
-            key: Some(key),
-        },
-        None => KeyTones {
-            low: 1.0,
-            high: 1.0,
-            key: None,
-        },
+impl From<Option<Tones>> for KeyTones {
+    ghost from_gives = { λ tones key_tones. key_tones ≡ tones_for tones };
+
+    fn from(tones: Option<Tones>) -> KeyTones {
+        match tones {
+            Some(Tones { low, high, key }) => KeyTones {
+                low,
+                high,
+                key: Some(key),
+            },
+            None => KeyTones {
+                low: 1.0,
+                high: 1.0,
+                key: None,
+            },
+        }
     }
 }
 
 // The frequencies and the key of the digit at a position; 1 Hz and no key where there is none.
+#[tactic(auto, using(crate::proofs::Lit::past), unfolding(crate::specs::Dial::digit_tones))]
 pub fn digit_tones(digits: &[u8], i: u64) -> KeyTones
     ensures { result ≡ digit_tones digits.now i }
 {
-    let at = i as usize;
-    if at < digits.len() {
-        return key_tones(keys::dtmf_freqs(digits[at]));
-    }
-    key_tones(keys::dtmf_freqs(0))
+    let digit = digits.get(i as usize);
+    KeyTones::from(digit.and_then(|b| keys::dtmf_freqs(*b)))
 }
 
 // The key of a sample: the digit's in its tone, none in the gap after it.
+#[tactic(auto, unfolding(crate::specs::Dial::dialled_key))]
 pub fn dialled_key(digits: &[u8], i: u64, tone: bool) -> Option<Key>
     ensures { result ≡ dialled_key digits.now i tone }
 {
     if tone {
-        let tones = digit_tones(digits, i);
-        return tones.key;
+        return digit_tones(digits, i).key;
     }
     None
 }
 
 // Whether the pair of digit and tone stays: at the end, or where it did not change.
-fn pair_stays(d: u64, i: u64, on: bool, digit: u64, tone: bool) -> bool
-    ensures { result ≡ pair_stays d i on digit tone }
+#[tactic(auto, unfolding(crate::specs::Dial::pair_stays))]
+fn pair_stays(d: u64, phase: DiallingPhase, dial: &Dial) -> bool
+    ensures { result ≡ pair_stays d phase.digit phase.tone dial.now.digit dial.now.tone }
 {
-    (i >= d) | ((i == digit) & (on == tone))
+    (phase.digit >= d) | ((phase.digit == dial.digit) & (phase.tone == dial.tone))
 }
 
 // A changed pair is taken over, with fresh oscillators if in tone.
-fn take_over(stays: bool, i: u64, on: bool, dial: Dial, digits: &[u8], rate: u32) -> Dial
-    ensures { result ≡ taken_over stays i on dial digits.now rate }
+#[tactic(auto, unfolding(crate::specs::Dial::taken_over))]
+fn take_over(stays: bool, phase: DiallingPhase, dial: Dial, digits: &[u8], rate: u32) -> Dial
+    ensures { result ≡ taken_over stays phase.digit phase.tone dial digits.now rate }
 {
     if stays {
         return dial;
     }
-    if on {
-        let tones = digit_tones(digits, i);
+    let digit = phase.digit;
+    if phase.tone {
+        let tones = digit_tones(digits, digit);
         let r = rate as f64;
-        let a = Nco::new(tones.low, r);
-        let b = Nco::new(tones.high, r);
         return Dial {
-            digit: i,
+            digit,
             tone: true,
-            a,
-            b,
+            a: Nco::new(tones.low, r),
+            b: Nco::new(tones.high, r),
         };
     }
-    let a = dial.a;
-    let b = dial.b;
     Dial {
-        digit: i,
+        digit,
         tone: false,
-        a,
-        b,
+        ..dial
     }
 }
 
 // One sample of what is dialled; n counts it.
+#[tactic(auto, unfolding(crate::specs::Dial::dial_step_of))]
 pub fn dial_step(dial: Dial, n: u32, digits: &[u8], rate: u32) -> Dialled
     ensures { result ≡ dial_step_of dial n digits.now rate }
 {
     let d = digits.len() as u64;
-    let digit = dial.digit;
-    let tone = dial.tone;
-    if digit >= d {
+    if dial.digit >= d {
         return Dialled {
             sample: 0.0,
             dial,
             finished: true,
         };
     }
-    let a = dial.a;
-    let b = dial.b;
-    let p = gated(tone, a, b);
-    let next_a = p.a;
-    let next_b = p.b;
+    let p = gated(dial.tone, dial.a, dial.b);
     let phase = schedule::dialling_phase(schedule::seconds(n, rate));
-    let i = phase.digit;
-    let on = phase.tone;
-    let stays = pair_stays(d, i, on, digit, tone);
-    let next = take_over(
-        stays,
-        i,
-        on,
-        Dial {
-            digit,
-            tone,
-            a: next_a,
-            b: next_b,
-        },
-        digits,
-        rate,
-    );
+    let stays = pair_stays(d, phase, &dial);
+    let played = Dial {
+        a: p.a,
+        b: p.b,
+        ..dial
+    };
     Dialled {
         sample: p.sample,
-        dial: next,
-        finished: i >= d,
+        dial: take_over(stays, phase, played, digits, rate),
+        finished: phase.digit >= d,
     }
 }
 

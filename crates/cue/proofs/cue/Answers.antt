@@ -3,15 +3,13 @@ use mathlib.Core.Path.{◌≡◌, sym, ap}
 use lib.ListN.{length}
 use Rattle.refusal.specs.Refusal.{answer_number}
 use Rattle.cue.specs.Cue.{cue_cause, cued}
-use Rattle.cue.proofs.Cueing.{in-limits, few-digits, first-of-digit, first-of-digit-is}
+use Rattle.cue.proofs.Cueing.{in-limits, first-of-digit, first-of-digit-is}
 use borrow.Author.Rules.{rules}
 use Rattle.cue.proofs.cue.Goals as goal
 
 pub cue_sample-sample-requires : goal.cue_sample-sample-requires
 cue_sample-sample-requires c = in-limits c.args.set c.args.position (sym (ap answer_number c.in_ok-cue_cause.ensures))
 
-pub cue_key-key-requires : goal.cue_key-key-requires
-cue_key-key-requires c = few-digits c.args.set c.args.position (sym (ap answer_number c.in_ok-cue_cause.ensures))
 
 pub returns : goal.returns
 unfolding cued

@@ -2,4 +2,4 @@
 use Rattle.gibbonplate.proofs.gibbonplate_state_in.Goals as goal
 
 pub returns : goal.returns
-returns c = rw (c.number.ensures, c.state-state.ensures, c.load-set.ensures.value)
+returns c = rw (c.from.ensures, c.state.ensures, c.load-set.ensures.value)

@@ -1,12 +1,7 @@
--- `dialled` meets its contract. The invariant is `Dialled`: the array holds the digits of the bytes passed.
--- A step stores a key, passes over one that has no room, or drops another byte, each by its law. Assumes nothing.
-use Prim.Native.Nat.{◌-◌}
-use lib.ListN.{length}
-use Rattle.keys.proofs.Line.{Dialled}
+-- `dialled` meets its contract: the digits of the bytes passed. Assumes nothing.
+use Rattle.std.proofs.Common.{◌≡◌, take}
+use Rattle.keys.specs.Keys.{dialled_of}
 use Rattle.keys.proofs.dialled.Given as goal
 
-abbrev pub invariant-loop-i : goal.invariant-loop-i
-invariant-loop-i l = Dialled l.line l.i l.keys l.len
-
-abbrev pub decreases-loop-i : goal.decreases-loop-i
-decreases-loop-i l = length l.line - l.i
+abbrev pub invariant-loop-b : goal.invariant-loop-b
+invariant-loop-b l = l.digits ≡ dialled_of (take l.b-index l.line)

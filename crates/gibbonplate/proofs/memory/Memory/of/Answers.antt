@@ -13,10 +13,10 @@ pub returns : goal.returns
 unfolding stored
 returns c = let p = laid _ _ _ (c.plain-x.ensures.value, c.plain-x.ensures.result_value)
     (rw (
+      c.from-6.ensures ∙ flag-is _,
       c.from-5.ensures ∙ flag-is _,
       c.from-4.ensures ∙ flag-is _,
-      c.from-3.ensures ∙ flag-is _,
-      c.number.ensures,
+      c.from-3.ensures,
       c.from-2.ensures ∙ flag-is _,
       c.from.ensures ∙ flag-is _,
       c.plain-x.ensures.value,
