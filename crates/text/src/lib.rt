@@ -10,10 +10,6 @@ ghost use Rattle.text.specs.Seconds.{seconds_of};
 use std::fmt;
 use std::marker::Model;
 
-mod buffer;
-
-pub use buffer::{has_room, put, put_byte, put_decimal, put_hex, put_seconds};
-
 // The texts are at the front.
 #[derive(Drop)]
 pub struct Page<const N: usize> {
