@@ -1,43 +1,12 @@
 // The program's own words, input and output, and what it says where one of them fails.
-ghost use Rattle.std.specs.Prelude.{◌≡◌, ◌≤◌, false, length, take};
+ghost use Rattle.std.specs.Prelude.{◌≡◌, false};
 ghost use Rattle.text.specs.Page.{fresh_page};
 
 use std::env::{Env, FillError};
 use std::fmt::Write;
 use std::io;
-use std::io::{ErrorKind, Read};
+use std::io::Read;
 use text::Page;
-
-// What a read gave.
-#[derive(Clone, Copy)]
-pub struct Input {
-    // how many bytes: 0 at the input's end, or where it cannot be read
-    pub count: usize,
-    // why it could not be read; where it could, nothing
-    pub error: Option<io::Error>,
-}
-
-// Puts what has come of the input at the buffer's front.
-pub fn read(input: &mut impl Read, buffer: &mut [u8]) -> Input
-    ensures in_bounds { result.count ≤ length buffer.new }
-    ensures front { result.count ≡ length (take result.count buffer.new) }
-{
-    match input.read(buffer) {
-        Ok(count) => Input { count, error: None },
-        Err(error) => Input {
-            count: 0,
-            error: Some(error),
-        },
-    }
-}
-
-// Writes the text before the place, and fails where not all of it was taken.
-pub fn flush(output: &impl Print, text: &[u8], at: usize) -> io::Result<()> {
-    if at <= text.len() {
-        return output.write_all(&text[..at]);
-    }
-    Err(io::Error::from(ErrorKind::InvalidInput))
-}
 
 // Whether the program was started with a word at this place. Its own name is at 0.
 pub fn has_word(words: &impl Env, place: usize) -> bool {

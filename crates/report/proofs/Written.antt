@@ -9,8 +9,7 @@ use lib.ListN.{length, length-append}
 use Rattle.ascii.specs.Ascii.{ascii}
 use Rattle.text.specs.Page.{Page, fresh_page, add_of}
 use Rattle.text.specs.Digits.{decimal_of, places_of}
-use Rattle.text.proofs.Pages.{add_whole}
-use Rattle.text.proofs.Texts.{few-places}
+use Rattle.text.proofs.Pages.{add_whole, few-places}
 use Rattle.report.specs.declared.Report.{Report}
 use Rattle.report.specs.Report.{mode_text, report_line}
 

@@ -1,4 +1,3 @@
 -- What the functions' proofs cite.
-pub mod Texts
 pub mod Pages
 pub mod Examples

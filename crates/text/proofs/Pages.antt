@@ -1,5 +1,5 @@
 -- Texts on a page, and the digits of a number. Assumes nothing.
-use Prim.Native.Nat.{ℕ, zero, suc, ◌+◌, ◌-◌, ◌*◌, ◌/◌, ◌%◌, ◌^◌, ◌<◌, ◌≤◌}
+use Prim.Native.Nat.{ℕ, zero, suc, ◌+◌, ◌-◌, ◌*◌, ◌/◌, ◌%◌, ◌^◌, ◌<◌, ◌≤◌, zero-le}
 use mathlib.Core.Bool.{Bool, true, false}
 use mathlib.Core.List.{List, [], ◌∷◌, ◌++◌, append_assoc, append-nil}
 use mathlib.Core.Path.{◌≡◌, refl, ap, sym, ◌∙◌}
@@ -7,16 +7,15 @@ use native.Mathlib.Nat.{pow-suc}
 use native.Mathlib.Numerals.{add-one}
 use native.Mathlib.Omega.{arith}
 use borrow.Author.Tests.{le-leb, lt-leb, lt-ltb, le-ltb}
-use lib.Dec.{leb}
+use lib.Dec.{leb, ltb}
 use lib.ListN.{length, take, drop, set, length-append, length-take, length-drop}
-use lib.Seq.{length-take-le}
+use lib.Seq.{length-take-le, drop_at, set_split}
 use borrow.Rule.Slice.PartMut.{put_mid}
 use Rattle.std.proofs.lemmas.Slice.{take-put_mid}
 use Rattle.ascii.specs.Ascii.{ascii}
 use Rattle.text.specs.Seconds.{seconds_if}
 use Rattle.text.specs.Page.{Page, add_of, add_if}
 use Rattle.text.specs.Digits.{glyph_of, last_digits, decimal_from, decimal_if, decimal_of, places_of}
-use Rattle.text.proofs.Texts.{digits_long, drop-stored}
 
 -- ---- a text that fits, and one that does not
 module _ (p : Page) (text : List ℕ) where
@@ -28,10 +27,49 @@ module _ (p : Page) (text : List ℕ) where
   unfolding add_of add_if
   add_none h = rw (lt-leb _ _ h)
 
--- ---- how many digits a number has, by the power of ten that it reaches
+-- ---- the digits of a number
+pub digits_long : (base k n : ℕ) → length (last_digits base k n) ≡ k
+unfolding last_digits
+digits_long base zero n = refl
+digits_long base (suc k) n = rw (length-append, digits_long base k (n / base)) (add-one k)
+
+pub drop-stored : (out : List ℕ) (place digit : ℕ) → place < length out → drop place (set out place digit) ≡ digit ∷ drop (suc place) out
+drop-stored out place digit h =
+    rw (set_split out place digit) (drop_at (take place out) _ place (length-take-le place out (omega arith)))
+
 longer : (before : List ℕ) (d : ℕ) → length (before ++ d ∷ []) ≡ suc (length before)
 longer before d = length-append before (d ∷ []) ∙ add-one (length before)
 
+decimal_digit : (t : Bool) (n : ℕ) (before : List ℕ) → before ≡ last_digits 10 (length before) (n / 10) → decimal_if t before (glyph_of (n % 10)) ≡ last_digits 10 (length (decimal_if t before (glyph_of (n % 10)))) n
+unfolding decimal_if last_digits
+decimal_digit true n before h = refl
+decimal_digit false n before h =
+    ap (λ (l : List ℕ). l ++ glyph_of (n % 10) ∷ []) h ∙ sym (ap (λ (k : ℕ). last_digits 10 k n) (longer before (glyph_of (n % 10))))
+
+decimal-from : (k n : ℕ) → decimal_from k n ≡ last_digits 10 (length (decimal_from k n)) n
+unfolding decimal_from last_digits
+decimal-from zero n = refl
+decimal-from (suc k) n = decimal_digit (ltb n 10) n (decimal_from k (n / 10)) (decimal-from k (n / 10))
+
+pub decimal-last : (n : ℕ) → decimal_of n ≡ last_digits 10 (places_of n) n
+unfolding decimal_of places_of
+decimal-last n = decimal-from 20 n
+
+shorter : (t : Bool) (before : List ℕ) (d k : ℕ) → length before ≤ k → length (decimal_if t before d) ≤ k + 1
+unfolding decimal_if
+shorter true before d k h = omega arith
+shorter false before d k h = rw (longer before d) (omega arith)
+
+few-digits : (k n : ℕ) → length (decimal_from k n) ≤ k
+unfolding decimal_from
+few-digits zero n = zero-le
+few-digits (suc k) n = rw (← (add-one k)) (shorter (ltb n 10) (decimal_from k (n / 10)) (glyph_of (n % 10)) k (few-digits k (n / 10)))
+
+pub few-places : (n : ℕ) → places_of n ≤ 20
+unfolding places_of decimal_of
+few-places n = few-digits 20 n
+
+-- ---- and how many they are, by the power of ten that the number reaches
 long-between : (k j n : ℕ) → k ≤ j → 10 ^ k ≤ n → n < 10 * 10 ^ k → length (decimal_from (suc j) n) ≡ k + 1
 unfolding decimal_from decimal_if
 long-between zero j n f h l = rw (lt-ltb n 10 (omega arith)) refl

@@ -1,5 +1,6 @@
 // A page: texts one behind the other in fixed memory. Each method adds the whole of a text, or nothing
-// where it does not fit.
+// where it does not fit. A value's Display would promise its text only at Ok, and nothing says that it
+// answers Ok where there is room, so that a line that fits could be missing: these are methods.
 #![tactic(auto)]
 
 ghost use Rattle.std.specs.Prelude.{◌≡◌, ◌∷◌, [], ◌++◌, ◌+◌, ◌-◌, ◌≤◌, ◌<◌, leb, length, take, drop};
@@ -9,10 +10,6 @@ ghost use Rattle.text.specs.Seconds.{seconds_of};
 
 use std::fmt;
 use std::marker::Model;
-
-mod buffer;
-
-pub use buffer::{has_room, put, put_byte, put_decimal, put_hex, put_seconds};
 
 // The texts are at the front.
 #[derive(Drop)]

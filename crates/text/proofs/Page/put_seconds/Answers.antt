@@ -7,8 +7,7 @@ use Rattle.ascii.specs.Ascii.{ascii}
 use Rattle.text.specs.Digits.{last_digits}
 use Rattle.text.specs.Seconds.{parts_of, seconds_of, seconds_if}
 use Rattle.text.specs.Page.{Page, add_of}
-use Rattle.text.proofs.Texts.{few-places}
-use Rattle.text.proofs.Pages.{add_nothing, seconds-whole, seconds-none}
+use Rattle.text.proofs.Pages.{few-places, add_nothing, seconds-whole, seconds-none}
 use Rattle.text.proofs.Page.put_seconds.Goals as goal
 
 pub returns-then-rate-eq0 : goal.returns-then-rate-eq0
