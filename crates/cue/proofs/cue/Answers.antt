@@ -10,7 +10,6 @@ use Rattle.cue.proofs.cue.Goals as goal
 pub cue_sample-sample-requires : goal.cue_sample-sample-requires
 cue_sample-sample-requires c = in-limits c.args.set c.args.position (sym (ap answer_number c.in_ok-cue_cause.ensures))
 
-
 pub returns : goal.returns
 unfolding cued
 returns c = let a = c.args in
