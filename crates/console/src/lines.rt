@@ -213,10 +213,8 @@ pub fn call_of(extended: bool, line: &[u8]) -> Call
     ensures { result ≡ call_of extended line.now }
 {
     let mut parser = Parser::new(extended);
-    let mut i = 0;
-    while i < line.len() {
-        parser = parser.next(line[i]);
-        i += 1;
+    for byte in line {
+        parser = parser.next(*byte);
     }
     parser.finish()
 }
