@@ -70,8 +70,9 @@ fn put_float(page: &mut tried::Entry, label: &[u8], number: f64) {
 fn bits(number: f64) -> u64
     ensures { result ≡ to_bits binary64 number }
 {
-    if number == number {
-        return f64::to_bits(number);
+    if number.is_nan() {
+        0x7ff8_0000_0000_0000
+    } else {
+        number.to_bits()
     }
-    0x7ff8_0000_0000_0000
 }

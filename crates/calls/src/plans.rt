@@ -20,28 +20,24 @@ fn one(output: &impl Print, digits: &[u8], rate: u32) {
     let mut page = tried::Entry::new();
     let refusal = plan::plan_refusal(digits, rate);
     tried::put_number(&mut page, b"plan of ", digits.len() as u64);
-    tried::put_number(&mut page, b" at ", rate as u64);
+    tried::put_number(&mut page, b" at ", u64::from(rate));
     tried::put_number(
         &mut page,
         b" refusal ",
-        refusal::answer_number(&refusal) as u64,
+        u64::from(refusal::answer_number(&refusal)),
     );
     page.put(b" stages");
-    put_stage(&mut page, digits, rate, 0);
-    put_stage(&mut page, digits, rate, 1);
-    put_stage(&mut page, digits, rate, 2);
-    put_stage(&mut page, digits, rate, 3);
-    put_stage(&mut page, digits, rate, 4);
-    put_stage(&mut page, digits, rate, 5);
-    put_stage(&mut page, digits, rate, 6);
-    put_stage(&mut page, digits, rate, 7);
-    put_stage(&mut page, digits, rate, 8);
-    put_stage(&mut page, digits, rate, 9);
-    put_stage(&mut page, digits, rate, 10);
-    tried::put_number(&mut page, b" T ", plan::total_samples(digits, rate) as u64);
+    for stage in 0..=10 {
+        tried::put_number(
+            &mut page,
+            b" ",
+            u64::from(plan::stage_samples(digits, rate, stage)),
+        );
+    }
+    tried::put_number(
+        &mut page,
+        b" T ",
+        u64::from(plan::total_samples(digits, rate)),
+    );
     tried::end(output, &mut page);
-}
-
-fn put_stage(page: &mut tried::Entry, digits: &[u8], rate: u32, stage: u32) {
-    tried::put_number(page, b" ", plan::stage_samples(digits, rate, stage) as u64)
 }

@@ -2,6 +2,7 @@
 ghost use Rattle.std.specs.Prelude.{◌≤◌};
 
 use keys::Key;
+use queue::Queue;
 use refusal::Refusal;
 use reply::Reply;
 use set::Set;
@@ -21,7 +22,7 @@ pub fn calls(output: &impl Print, name: &[u8], set: Set) {
     put_queued(&mut page, set);
     put_filled(&mut page, set);
     put_readers(&mut page, set);
-    put_number(&mut page, b" s12 ", set.s12() as u64);
+    put_number(&mut page, b" s12 ", u64::from(set.s12()));
     put_cue(&mut page, set, 0);
     end(output, &mut page);
 }
@@ -32,13 +33,12 @@ pub(crate) fn reply(output: &impl Print, code: u8, s12: u8, n: usize)
 {
     let mut page = Entry::new();
     let mut buffer = [b'.'; 28];
-    let from: usize = 0;
-    let length = reply::write_reply(code, s12, &mut buffer[from..n]);
-    put_number(&mut page, b"reply ", code as u64);
-    put_number(&mut page, b" s12 ", s12 as u64);
+    let length = reply::write_reply(code, s12, &mut buffer[..n]);
+    put_number(&mut page, b"reply ", u64::from(code));
+    put_number(&mut page, b" s12 ", u64::from(s12));
     put_number(&mut page, b" room ", n as u64);
     put_number(&mut page, b" length ", length as u64);
-    put_buffer(&mut page, &buffer);
+    put_word(&mut page, &buffer);
     end(output, &mut page);
 }
 
@@ -52,22 +52,20 @@ pub fn cue(output: &impl Print, name: &[u8], set: Set, position: u32) {
 pub fn digits(output: &impl Print, name: &[u8], set: Set) {
     let mut page = Entry::new();
     let digits = set.digits();
-    let keys = digits.keys;
     page.put(name);
     put_number(&mut page, b" digits ", digits.len as u64);
-    put_number(&mut page, b" key ", wide(keys[0]));
-    put_number(&mut page, b" key ", wide(keys[1]));
-    put_number(&mut page, b" key ", wide(keys[2]));
+    for key in &digits.keys[..3] {
+        put_number(&mut page, b" key ", u64::from(*key));
+    }
     end(output, &mut page);
 }
 
 pub fn made(output: &impl Print, rate: u32) {
     let mut page = Entry::new();
     let made = Set::new(rate);
-    let set = made.set;
-    put_number(&mut page, b"rate ", rate as u64);
+    put_number(&mut page, b"rate ", u64::from(rate));
     put_answer(&mut page, b" made ", &made.checked);
-    put_number(&mut page, b" at ", set.rate() as u64);
+    put_number(&mut page, b" at ", u64::from(made.set.rate()));
     end(output, &mut page);
 }
 
@@ -107,19 +105,23 @@ fn put_sending(page: &mut Entry, set: Set) {
     let after = set
         .process_out(&mut samples)
         .map_or(set, |filled| filled.set);
-    put_bits(page, samples::bits(samples[0]) as u64, 8);
-    put_bits(page, samples::bits(samples[1]) as u64, 8);
-    put_number(page, b" m ", after.m() as u64);
+    put_samples(page, &samples);
+    put_number(page, b" m ", u64::from(after.m()));
     put_waiting(page, after);
     put_frame(page, after)
 }
 
+fn put_samples(page: &mut Entry, samples: &[f32]) {
+    for sample in samples {
+        put_bits(page, u64::from(samples::bits(*sample)), 8);
+    }
+}
+
 // The byte that the sender has, how many bits of its frame are begun, and whether an edge is next.
 fn put_frame(page: &mut Entry, set: Set) {
-    let sending = set.sending;
-    let sender = sending.sender;
-    put_bits(page, wide(sender.byte), 2);
-    put_number(page, b" begun ", wide(sender.begun));
+    let sender = set.sending.sender;
+    put_bits(page, u64::from(sender.byte), 2);
+    put_number(page, b" begun ", u64::from(sender.begun));
     if sender.edge {
         page.put(b" edge");
     }
@@ -148,10 +150,10 @@ fn put_typed(page: &mut Entry, set: Set, byte: u8, n: usize)
     let reply = answer.map_or(Reply::None, |typed| typed.reply);
     let sent = answer.map_or(0, |typed| typed.sent);
     put_answer(page, b" typed ", &answer);
-    put_number(page, b" codes ", reply.first() as u64);
-    put_number(page, b" ", reply.second() as u64);
+    put_number(page, b" codes ", u64::from(reply.first()));
+    put_number(page, b" ", u64::from(reply.second()));
     put_number(page, b" sent ", sent as u64);
-    put_outbox(page, &outbox)
+    put_word(page, &outbox)
 }
 
 fn put_string(page: &mut Entry, set: Set, string: &[u8], n: usize, m: usize)
@@ -164,26 +166,15 @@ fn put_string(page: &mut Entry, set: Set, string: &[u8], n: usize, m: usize)
     let sent = answer.map_or(0, |typed| typed.sent);
     put_answer(page, b" string ", &answer);
     put_number(page, b" sent ", sent as u64);
-    put_sends(page, &outbox);
-    put_codes(page, codes)
+    put_word(page, &outbox);
+    put_codes(page, &codes)
 }
 
-fn put_sends(page: &mut Entry, outbox: &[u8; 16]) {
-    put_word(page, outbox)
-}
-
-fn put_codes(page: &mut Entry, codes: [u8; 12]) {
+fn put_codes(page: &mut Entry, codes: &[u8]) {
     page.put(b" codes ");
-    put_four(page, codes[0], codes[1], codes[2], codes[3]);
-    put_four(page, codes[4], codes[5], codes[6], codes[7]);
-    put_four(page, codes[8], codes[9], codes[10], codes[11])
-}
-
-fn put_four(page: &mut Entry, a: u8, b: u8, c: u8, d: u8) {
-    page.put_hex(wide(a), 2);
-    page.put_hex(wide(b), 2);
-    page.put_hex(wide(c), 2);
-    page.put_hex(wide(d), 2)
+    for code in codes {
+        page.put_hex(u64::from(*code), 2);
+    }
 }
 
 fn put_time(page: &mut Entry, set: Set) {
@@ -204,13 +195,11 @@ fn put_queued(page: &mut Entry, set: Set) {
 
 // How many bytes wait, and what the first two places and the last hold.
 fn put_waiting(page: &mut Entry, set: Set) {
-    let sending = set.sending;
-    let queue = sending.queue;
-    let bytes = queue.bytes;
-    put_number(page, b" waiting ", queue.len as u64);
-    put_bits(page, wide(bytes[0]), 2);
-    page.put_hex(wide(bytes[1]), 2);
-    page.put_hex(wide(bytes[255]), 2)
+    let Queue { bytes, len } = set.sending.queue;
+    put_number(page, b" waiting ", len as u64);
+    put_bits(page, u64::from(bytes[0]), 2);
+    page.put_hex(u64::from(bytes[1]), 2);
+    page.put_hex(u64::from(bytes[255]), 2)
 }
 
 fn put_filled(page: &mut Entry, set: Set) {
@@ -218,8 +207,7 @@ fn put_filled(page: &mut Entry, set: Set) {
     let answer = set.process_out(&mut samples);
     let key = answer.map_or(None, |filled| filled.key);
     put_answer(page, b" fill ", &answer);
-    put_bits(page, samples::bits(samples[0]) as u64, 8);
-    put_bits(page, samples::bits(samples[1]) as u64, 8);
+    put_samples(page, &samples);
     put_key(page, key)
 }
 
@@ -232,7 +220,7 @@ fn put_readers(page: &mut Entry, set: Set) {
 // 0 where it is declined.
 fn put_worked_out(page: &mut Entry, label: &[u8], answer: Result<u8, Refusal>) {
     put_answer(page, label, &answer);
-    put_number(page, b" ", wide(answer.unwrap_or(0)));
+    put_number(page, b" ", u64::from(answer.unwrap_or(0)));
 }
 
 fn put_cue(page: &mut Entry, set: Set, position: u32) {
@@ -248,8 +236,8 @@ fn put_cue(page: &mut Entry, set: Set, position: u32) {
 fn put_key(page: &mut Entry, key: Option<Key>) {
     match key {
         Some(Key { row, column }) => {
-            put_number(page, b" key ", row as u64);
-            put_number(page, b"", column as u64)
+            put_number(page, b" key ", u64::from(row));
+            put_number(page, b"", u64::from(column))
         }
         None => page.put(b" key -"),
     }
@@ -257,20 +245,12 @@ fn put_key(page: &mut Entry, key: Option<Key>) {
 
 // The refusal's number, or 0.
 fn put_answer<T>(page: &mut Entry, label: &[u8], answer: &Result<T, Refusal>) {
-    put_number(page, label, wide(refusal::answer_number(answer)));
+    put_number(page, label, u64::from(refusal::answer_number(answer)));
 }
 
 pub fn put_number(page: &mut Entry, label: &[u8], number: u64) {
     page.put(label);
     page.put_decimal(number);
-}
-
-fn put_buffer(page: &mut Entry, buffer: &[u8; 28]) {
-    put_word(page, buffer)
-}
-
-fn put_outbox(page: &mut Entry, outbox: &[u8; 8]) {
-    put_word(page, outbox)
 }
 
 fn put_word(page: &mut Entry, word: &[u8]) {
@@ -281,10 +261,6 @@ fn put_word(page: &mut Entry, word: &[u8]) {
 pub fn put_bits(page: &mut Entry, bits: u64, digits: usize) {
     page.put_byte(b' ');
     page.put_hex(bits, digits)
-}
-
-fn wide(byte: u8) -> u64 {
-    byte as u64
 }
 
 pub fn end(output: &impl Print, page: &mut Entry) {

@@ -1,18 +1,13 @@
--- `lent::bits` meets its contract: only a NaN differs from itself. Assumes nothing.
-use mathlib.Core.Bool.{Bool, false, not}
-use mathlib.Core.Path.{◌≡◌, ap, sym, subst}
-use lib.Dec.{T}
-use lib.Ieee.{Float, binary64, to_bits, eq, ne}
-use lib.Ieee.Compare.{differs_from_itself}
-use Rattle.samples.proofs.Samples.{not-nan}
+-- `lent::bits` meets its contract: the pattern of a NaN is the one that `to_bits` writes for it. Assumes nothing.
+use Rattle.std.proofs.Common.{◌≡◌, true, refl, sym, ◌∙◌}
+use lib.Ieee.{Float, nan, inf, fin, binary64, is_nan, to_bits}
 use Rattle.calls.proofs.lent.bits.Goals as goal
 
-nan-bits : (x : Float) → eq x x ≡ false → 0x7ff8_0000_0000_0000 ≡ to_bits binary64 x
-unfolding to_bits ne
-nan-bits x e = ap (to_bits binary64) (sym (differs_from_itself x (subst (λ (b : Bool). T (not b)) (sym e) tt)))
+nan-bits : (x : Float) → is_nan x ≡ true → 0x7ff8_0000_0000_0000 ≡ to_bits binary64 x
+unfolding is_nan to_bits
+nan-bits nan e = refl
+nan-bits (inf s) e = search
+nan-bits (fin s m k) e = search
 
-pub float_to_bits-result : goal.float_to_bits-result
-float_to_bits-result c = not-nan _ c.if-number.true
-
-pub returns : goal.returns
-returns c = nan-bits _ c.if-number.false
+pub returns-then-is_nan : goal.returns-then-is_nan
+returns-then-is_nan c = nan-bits _ (sym c.is_nan.ensures.value ∙ c.if-is_nan.true)
