@@ -181,7 +181,7 @@ pub extern "C" fn gibbonplate_queue_byte_in(
     }
 }
 
-// Row and column; 255 for none.
+// Row and column; C has no Option, and 255 is no row.
 fn key_numbers(key: Option<Key>) -> [u8; 2]
     ensures { result ≡ key_numbers key }
 {
@@ -268,6 +268,7 @@ pub extern "C" fn gibbonplate_cue_in(
     }
 }
 
+// 01's letter, which C is given as a number.
 fn letter(command: bool) -> u8
     ensures { result ≡ letter command }
 {
@@ -277,6 +278,7 @@ fn letter(command: bool) -> u8
     b'D'
 }
 
+// C has no Option: 0 where a set that is unsound has more digits than there are places.
 fn held_count(len: usize) -> usize
     ensures { result ≡ held_count len }
 {

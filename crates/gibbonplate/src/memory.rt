@@ -19,7 +19,7 @@ use set::Set;
 // How many marks a set has.
 pub const MARKS: usize = 13;
 
-// The seven arrays as one value. C lends them one by one, so `load`, `store` and each exported function take seven.
+// The seven arrays as one value. Programs call the exported functions with seven pointers, and those stay: `load`, `store` and each of them take seven.
 #[derive(Clone, Copy)]
 pub struct Memory {
     pub longs: [u64; 6],

@@ -135,7 +135,7 @@ fn bits(p: PlainStage) -> FskChannel
     }
 }
 
-// The number is a mark in memory that may hold anything; another one is taken for 10.
+// Another number than a stage's is taken for 10: `holds_set` asks for all marks in one place, and an Option here would ask again.
 pub fn staged(p: PlainStage) -> StageState
     ensures { result ≡ staged p }
 {
@@ -178,7 +178,7 @@ pub fn staged(p: PlainStage) -> StageState
     }
 }
 
-// A number that is no state's is taken for Idle and not refused, so this is no TryFrom.
+// A number that is no state's is taken for Idle: `holds_set` has asked, and a TryFrom would ask again.
 pub fn state_at(number: u8) -> SessionState
     ensures { result ≡ state_at number }
 {
