@@ -50,9 +50,6 @@ module _ (s : Set) (p : ℕ) (accepted : answer_number (cue_cause s p) ≡ 0) wh
   below : p < s.session.digits.len
   below = ltb-true _ _ ((and-eq-true_iff (eqb (state_number s.session.state) 1) _).0 able.1).1
 
-  pub few-digits : s.session.digits.len ≤ 76
-  few-digits = sound-digits s able.0
-
   -- the set's rate is in limits, and the position that of a digit
   pub in-limits : (p < 76) × (8000 ≤ s.rate) × (s.rate ≤ 192000)
   in-limits =

@@ -1,9 +1,9 @@
 // The cue: for a digit of the call, the first sample of that digit's tone, so that a light can be set to it, and its key.
 #![tactic(auto)]
 
-ghost use Rattle.std.specs.Prelude.{◌≡◌, true, ◌+◌, ◌<◌, ◌≤◌, IfOk};
+ghost use Rattle.std.specs.Prelude.{◌≡◌, true, ◌+◌, ◌<◌, IfOk};
 ghost use Rattle.math.specs.Float.{one};
-ghost use Rattle.schedule.specs.Time.{samples_in, min_rate, max_rate};
+ghost use Rattle.schedule.specs.Time.{samples_in};
 ghost use Rattle.schedule.specs.Length.{click_time};
 ghost use Rattle.tones.specs.Dial.{dialled_key};
 ghost use Rattle.passage.specs.Lengths.{samples_of_digits};
@@ -14,6 +14,7 @@ ghost use Rattle.cue.specs.Cue.{cue_cause, cued};
 
 use keys::Key;
 use refusal::Refusal;
+use schedule::Rate;
 use session::SessionState;
 use set::Set;
 
@@ -25,23 +26,23 @@ pub struct Cued {
 }
 
 // How many samples of Dialling come before a digit's: none, or those of the digits before it.
-fn samples_of_digits(position: u32, rate: u32) -> u64
-    requires { (position < 76) × (min_rate ≤ rate) × (rate ≤ max_rate) }
-    ensures { result ≡ samples_of_digits rate position }
+fn samples_of_digits(position: u32, rate: Rate) -> u64
+    requires { position < 76 }
+    ensures { result ≡ samples_of_digits rate.hertz position }
 {
     if position == 0 {
         return 0;
     }
-    schedule::dialling_samples(position as u64, rate)
+    schedule::dialling_samples(position as u64, rate.hertz)
 }
 
 // The sample after the click, the dial tone and the digits before.
-fn cue_sample(position: u32, rate: u32) -> u64
-    requires { (position < 76) × (min_rate ≤ rate) × (rate ≤ max_rate) }
-    ensures { result ≡ samples_in click_time rate + samples_in one rate + samples_of_digits rate position + 1 }
+fn cue_sample(position: u32, rate: Rate) -> u64
+    requires { position < 76 }
+    ensures { result ≡ samples_in click_time rate.hertz + samples_in one rate.hertz + samples_of_digits rate.hertz position + 1 }
 {
-    let click = schedule::stage_samples_for(stage::OFF_HOOK_S, rate);
-    let tone = schedule::stage_samples_for(stage::DIAL_TONE_S, rate);
+    let click = schedule::stage_samples_for(stage::OFF_HOOK_S, rate.hertz);
+    let tone = schedule::stage_samples_for(stage::DIAL_TONE_S, rate.hertz);
     let digits = samples_of_digits(position, rate);
     click + tone + digits + 1
 }
@@ -76,7 +77,9 @@ pub fn cue(set: Set, position: u32) -> Result<Cued, Refusal>
     ensures first_in_tone { IfOk result (λ (c : Cued). FirstInTone (digits_held set.session) set.rate position c.sample) }
 {
     cue_cause(set, position)?;
-    let sample = cue_sample(position, set.rate);
+    // the rate of a sound set is within the limits
+    let rate = Rate { hertz: set.rate };
+    let sample = cue_sample(position, rate);
     let key = cue_key(set, position);
     Ok(Cued { sample, key })
 }

@@ -1,2 +1,3 @@
 pub mod Modulator
 pub mod Channel
+pub mod Played

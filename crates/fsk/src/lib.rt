@@ -4,18 +4,29 @@
 // its caller names the payload.
 #![tactic(auto)]
 
-ghost use Rattle.std.specs.Prelude.{◌≡◌, drop};
+ghost use Rattle.std.specs.Prelude.{◌≡◌, Bool, drop};
+ghost use Rattle.fsk.specs.declared.Modulator.{Modulator};
 ghost use Rattle.frame.specs.Frame.{framed};
 ghost use Rattle.fsk.specs.Modulator.{tone_of, fresh_modulator, keyed, modulator_sample, bit_ends, next_modulator};
 ghost use Rattle.fsk.specs.Channel.{fresh_channel, next_keyed, next_channel};
+ghost use Rattle.fsk.specs.Played.{keying, SoundedIs};
 
 use nco::Nco;
 
-const V21_LOW_MARK: f64 = 980.0;
-
-const V21_LOW_SPACE: f64 = 1180.0;
+// V.21's low channel.
+const V21_LOW: Tones = Tones {
+    mark: 980.0,
+    space: 1180.0,
+};
 
 const FSK_AMPLITUDE: f64 = 0.7;
+
+// The two tones of bits, in hertz: a 1 is at mark, a 0 at space.
+#[derive(Clone, Copy)]
+pub struct Tones {
+    pub mark: f64,
+    pub space: f64,
+}
 
 // An oscillator, and the clock of its bits: the symbol phase, and what each sample adds to it.
 #[derive(Clone, Copy)]
@@ -31,29 +42,31 @@ pub struct FskChannel {
     pub done: u16,
 }
 
-fn tone(mark: f64, space: f64, bit: bool) -> f64
-    ensures { result ≡ tone_of mark space bit }
-{
-    if bit { mark } else { space }
+impl Tones {
+    fn tone(self, bit: bool) -> f64
+        ensures { result ≡ tone_of self.mark self.space bit }
+    {
+        if bit { self.mark } else { self.space }
+    }
 }
 
 impl Modulator {
-    pub fn new(mark: f64, space: f64, rate: u32, first: bool) -> Modulator
-        ensures { result ≡ fresh_modulator mark space rate first }
+    pub fn new(tones: Tones, rate: u32, first: bool) -> Modulator
+        ensures { result ≡ fresh_modulator tones.mark tones.space rate first }
     {
         Modulator {
-            nco: Nco::new(tone(mark, space, first), rate as f64),
+            nco: Nco::new(tones.tone(first), rate as f64),
             phase: 0.0,
             step: schedule::symbol_step(rate),
         }
     }
 
     // A bit sets the oscillator's step.
-    pub fn set_bit(self, mark: f64, space: f64, bit: bool) -> Modulator
-        ensures { result ≡ keyed self mark space bit }
+    pub fn set_bit(self, tones: Tones, bit: bool) -> Modulator
+        ensures { result ≡ keyed self tones.mark tones.space bit }
     {
         Modulator {
-            nco: self.nco.set_freq(tone(mark, space, bit)),
+            nco: self.nco.set_freq(tones.tone(bit)),
             ..self
         }
     }
@@ -81,7 +94,7 @@ fn set_next(m: Modulator, payload: &[u8], index: u16) -> Modulator
 {
     let at = index as usize;
     if frame::has_bit(payload, at) {
-        return m.set_bit(V21_LOW_MARK, V21_LOW_SPACE, frame::payload_bit(payload, at));
+        return m.set_bit(V21_LOW, frame::payload_bit(payload, at));
     }
     m
 }
@@ -93,7 +106,7 @@ impl FskChannel {
     {
         let first = frame::payload_bit(payload, 0);
         FskChannel {
-            modulator: Modulator::new(V21_LOW_MARK, V21_LOW_SPACE, rate, first),
+            modulator: Modulator::new(V21_LOW, rate, first),
             done: 0,
         }
     }
@@ -119,4 +132,56 @@ pub fn sample_twice(m: Modulator, n: Modulator) -> (f64, f64)
 {
     let (a, b) = math::sin_both(m.nco.phase, n.nco.phase);
     (a * FSK_AMPLITUDE, b * FSK_AMPLITUDE)
+}
+
+// What sounds on a modulator, sample by sample, until it ends with one of them.
+pub trait Keyed: Copy {
+    ghost modulator_of: { Self → Modulator };
+
+    ghost next_of: { Self → Self };
+
+    ghost ends: { Self → Bool };
+
+    // That of the next sample.
+    fn modulator(self) -> Modulator
+        ensures { result ≡ modulator_of self };
+
+    // After one sample.
+    fn moved(self) -> Self
+        ensures { result ≡ next_of self };
+
+    // Whether the sample before was its last.
+    fn ended(self) -> bool
+        ensures { result ≡ ends self };
+}
+
+// The samples of one, to its last or until the part is full: what is in hand after them, and how many
+// they are. Two a turn, so that their sines share the lanes of one division. It counts by hand: it may
+// end between the two, and over pairs of samples the count of those written would stand beside the iterator.
+pub fn play<K: Keyed>(keyed: K, out: &mut [f32]) -> (K, usize)
+    ensures { SoundedIs (keying K.modulator_of K.next_of) K.ends keyed out.old out.new result.0 result.1 }
+{
+    let mut now = keyed;
+    let mut written: usize = 0;
+    while out.len() - written > 1 {
+        let next = now.moved();
+        let (a, b) = sample_twice(now.modulator(), next.modulator());
+        out[written] = math::narrow(a);
+        written += 1;
+        if next.ended() {
+            return (next, written);
+        }
+        let after = next.moved();
+        out[written] = math::narrow(b);
+        written += 1;
+        if after.ended() {
+            return (after, written);
+        }
+        now = after;
+    }
+    if written < out.len() {
+        out[written] = math::narrow(now.modulator().sample());
+        return (now.moved(), written + 1);
+    }
+    (now, written)
 }

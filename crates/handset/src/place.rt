@@ -48,11 +48,7 @@ fn ring_sound(on: bool) -> Option<Tones>
 pub fn edges(call: &Call) -> Edges
     ensures { result ≡ edges_of call.now.rate.hertz (length (call_digits call.now)) }
 {
-    let rate = call.rate.hertz;
-    let click = schedule::stage_samples_for(stage::OFF_HOOK_S, rate) as u32;
-    let tone = schedule::stage_samples_for(stage::DIAL_TONE_S, rate) as u32;
-    let dialling = schedule::dialling_samples(call.digits().len() as u64, rate) as u32;
-    let ringback = schedule::stage_samples_for(stage::RING_STAGE_S, rate) as u32;
+    let [click, tone, dialling, ringback] = call.before_bits();
     let dial = click + tone;
     let ring = dial + dialling;
     let end = ring + ringback;

@@ -45,7 +45,7 @@ dials-abcd = refl
 
 -- ---- the digits of a line's first i bytes, in an array of 76 with their number
 
-pub none_yet : (line : List ℕ) → record { keys = replicate 76 0; len = 0 } ≡ dialled_of (take 0 line)
+pub none_yet : (line : List ℕ) → held [] ≡ dialled_of (take 0 line)
 unfolding digits_of keys_of padded
 none_yet line = refl
 

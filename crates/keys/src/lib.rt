@@ -1,8 +1,8 @@
 // The keypad of Q.23, and the digits of a dial line.
 #![tactic(auto)]
 
-ghost use Rattle.std.specs.Prelude.{◌≡◌, take};
-ghost use Rattle.keys.specs.Keys.{place_of, is_key, tones_of, NamesKey, all_keys, with_digit, dialled_of};
+ghost use Rattle.std.specs.Prelude.{◌≡◌, [], take};
+ghost use Rattle.keys.specs.Keys.{place_of, is_key, tones_of, NamesKey, all_keys, held, with_digit, dialled_of};
 
 // Row by row, four keys to a row.
 const KEYPAD: [u8; 16] = *b"123A456B789C*0#D";
@@ -34,6 +34,17 @@ pub struct Digits {
 }
 
 impl Digits {
+    // Those of a call to no number.
+    #[tactic(auto, unfolding(crate::specs::Keys::padded))]
+    pub fn new() -> Digits
+        ensures { result ≡ held [] }
+    {
+        Digits {
+            keys: [0; 76],
+            len: 0,
+        }
+    }
+
     // The digits that are held. A count beyond the array is that of the whole array.
     pub fn held(&self) -> &[u8]
         ensures { result.now ≡ take self.now.len self.now.keys }
@@ -89,10 +100,7 @@ pub fn dtmf_freqs(b: u8) -> Option<Tones>
 pub fn dialled(line: &[u8]) -> Digits
     ensures { result ≡ dialled_of line.now }
 {
-    let mut digits = Digits {
-        keys: [0u8; 76],
-        len: 0,
-    };
+    let mut digits = Digits::new();
     for b in line {
         let b = ascii::uppercase(*b);
         if is_key(b) {

@@ -39,22 +39,21 @@ module _ (digits : List ℕ) (r : ℕ) (s₀ : StageState) (was : List Float) wh
     rest : length (take (length out - at) (drop at out)) ≡ length was - at
     rest = let e = fill-long in simp (length-take, length-drop) (omega arith)
 
-    -- the part that is lent has room
-    pub part-some : at < length out → 0 < length (take (length out - at) (drop at out))
-    part-some l = let e = fill-long in omega (arith, rest)
-
-    -- the rest was lent to the writer of s's stage
-    module _ (ys : List Float) (w : Wrote) (W : WroteIs s digits r (take (length out - at) (drop at out)) ys w) where
+    -- the rest, which has room, was lent to the writer of s's stage
+    module _ (l : at < length out) (ys : List Float) (w : Wrote) (W : WroteIs s digits r (take (length out - at) (drop at out)) ys w) where
       pub fits_in : at + w.written ≤ length was
       fits_in = omega (arith, W.fits, rest, F.count)
+
+      pub moves : 0 < w.written
+      moves = let e = fill-long in W.some (omega (arith, rest))
 
       pub fill-again : (y : Shown) → y ≡ shown_of s digits → (t : StageState) → t ≡ onward w.ended w.state digits r
           → Filling digits r s₀ was (take at out ++ (ys ++ drop (length out - at) (drop at out))) t (at + w.written) y
       fill-again y e t et = record {
         count = fits_in;
         buffer = lent digits r at w.written s₀ was out ys F.count F.buffer (rw (sym F.state) W.buffer);
-        state = et ∙ W.state ∙ rw (F.state, after-add);
-        seen = e ∙ seen_more at w.written s F.state W.some W.same;
+        state = et ∙ W.state moves ∙ rw (F.state, after-add);
+        seen = e ∙ seen_more at w.written s F.state moves W.same;
       }
 
     module _ (l : length out ≤ at) where

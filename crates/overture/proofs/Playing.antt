@@ -1,14 +1,13 @@
--- Samples made in a row: what holds while a loop plays them into a buffer, and what a stage that they are the samples of has then written.
+-- Samples made in a row, over the front of a buffer: what a stage that they are the samples of has then written.
 -- By induction on the count. Assumes nothing.
-use Prim.Native.Nat.{ℕ, zero, suc, ◌+◌, ◌≤◌, ◌<◌}
-use native.Mathlib.Nat.{le_antisymm, le_refl, le_of_lt, not-suc-le-zero}
+use Prim.Native.Nat.{ℕ, zero, suc, ◌≤◌, ◌<◌}
+use native.Mathlib.Nat.{le_refl, le_of_lt, not-suc-le-zero}
 use native.Mathlib.Numerals.{add-one}
 use native.Mathlib.Omega.{arith}
 use mathlib.Core.Path.{◌≡◌, refl, sym, ap, subst, ◌∙◌}
 use mathlib.Core.Bool.{Bool, false}
-use mathlib.Core.List.{List, [], ◌∷◌, ◌++◌, append_assoc, append-nil}
-use lib.ListN.{length, take, drop, set, length-append, length-take, length-drop, drop_of_length-le, replicate-append-replicate}
-use lib.Seq.{drop-cons, set_at}
+use mathlib.Core.List.{List, ◌++◌, append-nil}
+use lib.ListN.{length, take, drop, length-take, drop_of_length-le, replicate-append-replicate}
 use lib.Ieee.{Float, binary32, of_bits, nan}
 use Rattle.math.specs.Float as float
 use Rattle.math.specs.Narrow.{narrowed}
@@ -16,48 +15,9 @@ use Rattle.stage.specs.declared.StageState.{StageState}
 use Rattle.stage.specs.Stage.{shown_of}
 use Rattle.stage.specs.Next.{sample_next, state_next, onward}
 use Rattle.overture.specs.Iteration.{after, samples, zeros}
-use Rattle.overture.specs.Writers.{Source, left, made, PlayedIs, WroteIs}
+use Rattle.fsk.specs.Played.{Source, left, made, PlayedIs}
+use Rattle.overture.specs.Writers.{WroteIs}
 use Rattle.overture.proofs.Iteration.{after-suc, samples-suc}
-
--- ---- a loop
-
--- i of at most `most` samples are made, from x to y
-pub record Playing {X : Type 0} (f : Source X) (most : ℕ) (x : X) (was out : List Float) (y : X) (i : ℕ) : Type 0 where
-  pub few : i ≤ most
-  pub room : most ≤ length was
-  pub played : PlayedIs f i x was out y
-
-stored : (xs was : List Float) (i : ℕ) (v : Float) → length xs ≡ i → i < length was → set (xs ++ drop i was) i v ≡ (xs ++ (v ∷ [])) ++ drop (suc i) was
-stored xs was i v e h = rw (drop-cons was i nan, append_assoc) (set_at xs _ _ _ i e)
-
-module _ {X : Type 0} (f : Source X) (most : ℕ) (x : X) (was : List Float) where
-  made-length : (k : ℕ) → length (made f k x) ≡ k
-  unfolding made
-  made-length zero = refl
-  made-length (suc k) = rw (length-append, made-length k) (add-one k)
-
-  pub playing-start : most ≤ length was → Playing f most x was was x 0
-  unfolding made left
-  playing-start h = record { few = omega arith; room = h; played = record { buffer = refl; rest = refl } }
-
-  module _ (out : List Float) (y : X) (i : ℕ) (P : Playing f most x was out y i) where
-    pub playing-long : length out ≡ length was
-    playing-long = ap length P.played.buffer ∙ simp (length-append, made-length, length-drop) (omega (arith, P.few, P.room))
-
-    -- one more sample, v, with which y becomes z
-    pub playing-again : i < most → (v : Float) (z : X) → v ≡ narrowed (f.sample y) → z ≡ f.next y → Playing f most x was (set out i v) z (i + 1)
-    unfolding made left
-    playing-again l v z ev ez = record {
-      few = omega arith;
-      room = P.room;
-      played = record {
-        buffer = rw (P.played.buffer, add-one, ev, P.played.rest) (stored (made f i x) was i _ (made-length i) (omega (arith, P.room)));
-        rest = ez ∙ rw (add-one, P.played.rest);
-      };
-    }
-
-    pub playing-done : most ≤ i → PlayedIs f most x was out y
-    playing-done l = subst (λ (k : ℕ). PlayedIs f k x was out y) (le_antisymm P.few l) P.played
 
 -- ---- over a part that is the front of a buffer
 
@@ -130,12 +90,12 @@ module _ {X : Type 0} (f : Source X) (at : X → ℕ → StageState) (ends : X �
   last zero h l = absurd (not-suc-le-zero h)
   last (suc j) h l = after-suc digits r j (at x 0) ∙ rw (state-at j l) (S.next j l)
 
-  pub wrote : (was is : List Float) (y : X) → PlayedIs f count x was is y → 0 < count → count ≤ length was → (s : StageState) (ended : Bool)
-      → onward ended s digits r ≡ onward (ends y count) (at y count) digits r → WroteIs (at x 0) digits r was is (record { state = s; ended = ended; written = count })
+  pub wrote : (was is : List Float) (y : X) → PlayedIs f count x was is y → (0 < length was → 0 < count) → count ≤ length was → (s : StageState) (ended : Bool)
+      → (0 < count → onward ended s digits r ≡ onward (ends y count) (at y count) digits r) → WroteIs (at x 0) digits r was is (record { state = s; ended = ended; written = count })
   wrote was is y P some fits s ended e = record {
     some = some;
     fits = fits;
     buffer = rw (samples-are count (le_refl count)) P.buffer;
-    state = e ∙ rw P.rest (sym (last count some (le_refl count)));
+    state = λ h. e h ∙ rw P.rest (sym (last count h (le_refl count)));
     same = λ k l. ap (λ (s : StageState). shown_of s digits) (state-at k l) ∙ S.shown k l;
   }

@@ -1,13 +1,13 @@
 -- What each stage's writer has written when it has played a run of its clock: the samples are the stage's by its definition, with the clock
 -- told by the run. Assumes nothing.
-use Prim.Native.Nat.{ℕ, zero, suc, ◌≤◌, ◌<◌}
+use Prim.Native.Nat.{ℕ, zero, suc, min, ◌≤◌, ◌<◌}
 use native.Mathlib.Nat.{lt_of_lt_of_le, le_trans, le_refl, le_of_suc-le-suc, not-suc-le-zero}
 use native.Mathlib.Omega.{arith}
 use mathlib.Core.Path.{◌≡◌, refl, sym, ap, subst, ◌∙◌}
 use mathlib.Core.Bool.{Bool, true, false, beq}
-use mathlib.Core.List.{List, [], ◌∷◌, ◌++◌}
+use mathlib.Core.List.{List, ◌++◌}
 use lib.Dec.{leb}
-use lib.ListN.{length, drop, set}
+use lib.ListN.{length, drop, replicate}
 use lib.Ieee.{Float}
 use borrow.Author.Tests.{le-leb, lt-leb, eq-eqb}
 use Rattle.math.specs.Float.{f64, one}
@@ -35,12 +35,13 @@ use Rattle.overture.specs.declared.Click.{Click}
 use Rattle.overture.specs.declared.Sent.{Sent}
 use Rattle.overture.specs.declared.Wrote.{Wrote}
 use Rattle.overture.specs.Iteration.{samples, after, zeros}
-use Rattle.overture.specs.Writers.{Source, mixing, sending, clicking, left, PlayedIs, SentIs, AllSent, WroteIs}
+use Rattle.fsk.specs.Played.{Source, left, PlayedIs}
+use Rattle.overture.specs.Writers.{mixing, sending, clicking, SentIs, AllSent, WroteIs}
 use Rattle.overture.proofs.Playing.{wrote, zeros-played, only-zeros, resting}
 
 module _ (digits : List ℕ) (r : ℕ) (was is : List Float) where
   -- ---- 1
-  module _ (n end c rng : ℕ) (h : 0 < length was) (B : Before n end (length was) c) (ee : end ≡ samples_in click_time r) where
+  module _ (n end c rng : ℕ) (B : Before n end (length was) c) (ee : end ≡ samples_in click_time r) where
     count-is : (j : ℕ) → (left (clicking r) j (record { rng = rng; n = n })).n ≡ counted j n
     unfolding left counted
     count-is zero = refl
@@ -57,21 +58,21 @@ module _ (digits : List ℕ) (r : ℕ) (was is : List Float) where
           early = λ j l. lt-leb end _ (subst (λ (k : ℕ). k < end) (sym (count-is (suc j))) (B.early j l));
           shown = λ j l. refl;
         })
-        was is y P (B.some h) B.fits _ _ refl
+        was is y P B.some B.fits _ _ (λ _. refl)
 
   -- ---- the stages that end at a count: c samples of the most that are left, and k the count after them
-  module _ (n end most c k : ℕ) (B : Before n end (length was) most) (fits : c ≤ most) (some : 0 < c) (ek : k ≡ counted c n) where
+  module _ (n end most c k : ℕ) (B : Before n end (length was) most) (fits : c ≤ most) (some : 0 < most → 0 < c) (ek : k ≡ counted c n) where
     -- the state after j samples is `at` of what is in hand and j
     module _ {X : Type 0} (f : Source X) (at : X → ℕ → StageState) (x : X)
         (sample : (j : ℕ) → j < c → sample_next (at (left f j x) j) digits r ≡ f.sample (left f j x))
         (next : (j : ℕ) → j < c → state_next (at (left f j x) j) digits r ≡ onward (leb end (counted (suc j) n)) (at (left f (suc j) x) (suc j)) digits r)
         (shown : (j : ℕ) → j < c → shown_of (at (left f j x) j) digits ≡ shown_of (at x 0) digits) where
-      counts : (y : X) → PlayedIs f c x was is y → (s : StageState) → s ≡ at y c
+      counts : (y : X) → PlayedIs f c x was is y → (s : StageState) → (0 < c → s ≡ at y c)
           → WroteIs (at x 0) digits r was is (record { state = s; ended = leb end k; written = c })
       counts y P s e =
           wrote f at (λ y j. leb end (counted j n)) x c digits r
           (record { sample = sample; next = next; early = λ j l. lt-leb end _ (B.early j (lt_of_lt_of_le l fits)); shown = shown })
-          was is y P some (le_trans fits B.fits) s _ (rw (ek, e))
+          was is y P (λ m. some (B.some m)) (le_trans fits B.fits) s _ (λ h. rw (ek, e h))
 
     module _ (a b : Nco) (p : Pair) where
       -- 2
@@ -83,7 +84,7 @@ module _ (digits : List ℕ) (r : ℕ) (was is : List Float) where
           (λ j l. refl)
           (λ j l. rw ee)
           (λ j l. refl)
-          p P _ (rw ek)
+          p P _ (λ _. rw ek)
 
       -- 4: the ring is that of the sample before
       module _ (z : ℕ) (S : OneGate r n most c) where
@@ -108,7 +109,7 @@ module _ (digits : List ℕ) (r : ℕ) (was is : List Float) where
             (λ j l. ap (λ (g : Bool). (gated_of g (before j).a (before j).b).sample) (gate j l))
             (λ j l. rw (ee, four) (ap (λ (g : Bool). rung j g (ring_at (time_at r (counted j n)))) (gate j l) ∙ ap (rung j on) (S.ring j l)))
             (λ j l. refl)
-            p P _ (ap (λ (q : ℕ). Ringback p.a p.b q ρ) ek ∙ ap (Ringback p.a p.b (counted c n)) (er ∙ ap ring_at eu ∙ sym (last-ring c some)))
+            p P _ (λ h. ap (λ (q : ℕ). Ringback p.a p.b q ρ) ek ∙ ap (Ringback p.a p.b (counted c n)) (er ∙ ap ring_at eu ∙ sym (last-ring c h)))
 
       -- 6
       pub ansam-wrote : OneSign r n most c → end ≡ samples_in (f64 0x4008_0000_0000_0000) r → (u g : Float) → u ≡ time_at r n → g ≡ sign_at u
@@ -123,7 +124,7 @@ module _ (digits : List ℕ) (r : ℕ) (was is : List Float) where
           (λ j l. rw (ee, three)
           (ap (λ (g : Float). onward (leb (samples_in ansam_time r) (saturating_inc (counted j n))) (Ansam (answer_of (before j).a (before j).b g).a (answer_of (before j).a (before j).b g).b (saturating_inc (counted j n))) digits r) (sign j l)))
           (λ j l. refl)
-          p P _ (rw ek)
+          p P _ (λ _. rw ek)
 
     -- 8: its zeros
     pub cj-silence-wrote : (f : FskChannel) → 60 ≤ f.done → end ≡ samples_in cj_silence r → is ≡ zeros c ++ drop c was
@@ -134,7 +135,7 @@ module _ (digits : List ℕ) (r : ℕ) (was is : List Float) where
         (λ j l. ap (λ (b : Bool). (cj_at b f (counted j n) r).sample) (le-leb 60 f.done h))
         (λ j l. rw ee (ap (λ (b : Bool). onward (cj_at b f (counted j n) r).finished (cj_at b f (counted j n) r).state digits r) (le-leb 60 f.done h)))
         (λ j l. refl)
-        0 (zeros-played resting 0 refl refl c was is eb) _ (rw ek)
+        0 (zeros-played resting 0 refl refl c was is eb) _ (λ _. rw ek)
 
   -- ---- 3, which does not end in a run
   module _ (n digit : ℕ) (tone : Bool) (c : ℕ) (K : OneKey r n digit tone (length was) c) (h : digit < length digits) where
@@ -166,27 +167,33 @@ module _ (digits : List ℕ) (r : ℕ) (was is : List Float) where
           early = λ j l. refl;
           shown = λ j l. refl;
         })
-        was is p P some K.fits _ _ (rw ek)
+        was is p P (λ _. some) K.fits _ _ (λ _. rw ek)
 
-  -- one sample of whichever stage
-  pub one-wrote : (s t : StageState) (ended : Bool) (v : Float) → 0 < length was → v ≡ narrowed (sample_next s digits r) → onward ended t digits r ≡ state_next s digits r → is ≡ set was 0 v
-      → WroteIs s digits r was is (record { state = t; ended = ended; written = 1 })
+  -- one sample of whichever stage, if there is room
+  pub one-wrote : (s t : StageState) (ended : Bool) (v : Float) (c : ℕ) → c ≡ min (length was) 1 → v ≡ narrowed (sample_next s digits r) → onward ended t digits r ≡ state_next s digits r
+      → is ≡ replicate c v ++ drop c was → WroteIs s digits r was is (record { state = t; ended = ended; written = c })
   unfolding samples after
-  one-wrote s t ended v h ev et eb = record {
-    some = omega arith;
-    fits = h;
-    buffer = eb ∙ rw ev (front was h);
-    state = et;
-    same = same;
+  one-wrote s t ended v c ec ev et eb = record {
+    some = λ h. omega arith;
+    fits = omega arith;
+    buffer = eb ∙ ap (λ (xs : List Float). xs ++ drop c was) (front c (omega arith));
+    state = λ h. et ∙ sym (next c h (omega arith));
+    same = λ k l. same c (omega arith) k l;
   }
     where
-      same : (k : ℕ) → k < 1 → shown_of (after k s digits r) digits ≡ shown_of s digits
-      same zero l = refl
-      same (suc k) l = absurd (not-suc-le-zero (le_of_suc-le-suc l))
+      front : (c : ℕ) → c ≤ 1 → replicate c v ≡ samples c s digits r
+      front zero l = refl
+      front (suc zero) l = rw ev
+      front (suc (suc c)) l = absurd (not-suc-le-zero (le_of_suc-le-suc l))
 
-      front : (was : List Float) → 0 < length was → set was 0 (narrowed (sample_next s digits r)) ≡ samples 1 s digits r ++ drop 1 was
-      front [] l = absurd (not-suc-le-zero l)
-      front (x ∷ xs) l = refl
+      next : (c : ℕ) → 0 < c → c ≤ 1 → after c s digits r ≡ state_next s digits r
+      next zero h l = absurd (not-suc-le-zero h)
+      next (suc zero) h l = refl
+      next (suc (suc c)) h l = absurd (not-suc-le-zero (le_of_suc-le-suc l))
+
+      same : (c : ℕ) → c ≤ 1 → (k : ℕ) → k < c → shown_of (after k s digits r) digits ≡ shown_of s digits
+      same c l zero m = refl
+      same c l (suc k) m = absurd (not-suc-le-zero (le_of_suc-le-suc (le_trans m l)))
 
   -- ---- the stages that send bits
   module _ (f : FskChannel) (payload : List ℕ) (total : ℕ) (w : Sent) (B : SentIs f payload total was is w) where
@@ -199,7 +206,7 @@ module _ (digits : List ℕ) (r : ℕ) (was is : List Float) where
     bits-wrote at sample next shown =
         wrote (sending payload) (λ f j. at f) (λ f j. leb total f.done) f w.written digits r
         (record { sample = λ j l. sample _; next = λ j l. next _; early = λ j l. lt-leb total _ (B.early j l); shown = λ j l. shown _ _ })
-        was is w.fsk B.played B.some B.fits _ _ refl
+        was is w.fsk B.played B.some B.fits _ _ (λ _. refl)
 
   told : {s : StageState} (v : Wrote) (t : StageState) (ended : Bool) (written : ℕ) → v.state ≡ t → v.ended ≡ ended → v.written ≡ written
       → WroteIs s digits r was is (record { state = t; ended = ended; written = written }) → WroteIs s digits r was is v
@@ -238,18 +245,18 @@ module _ (digits : List ℕ) (r : ℕ) (was is : List Float) where
         early = λ j l. refl;
         shown = λ j l. refl;
       })
-      was is w.fsk B.played B.some B.fits _ _ refl
+      was is w.fsk B.played B.some B.fits _ _ (λ _. refl)
     where
       bits_left : (j : ℕ) → j < w.written → leb 60 (left (sending cj_payload) j f).done ≡ false
       bits_left zero l = lt-leb 60 _ h
       bits_left (suc j) l = lt-leb 60 _ (B.early j l)
 
   -- ---- 10
-  pub connected-wrote : 0 < length was → is ≡ zeros (length was) → WroteIs Connected digits r was is (record { state = Connected; ended = false; written = length was })
+  pub connected-wrote : is ≡ zeros (length was) → WroteIs Connected digits r was is (record { state = Connected; ended = false; written = length was })
   unfolding sample_next state_next generate_of connected_of
-  connected-wrote h e =
+  connected-wrote e =
       wrote resting (λ x j. Connected) (λ x j. false) 0 (length was) digits r
       (record { sample = λ j l. refl; next = λ j l. refl; early = λ j l. refl; shown = λ j l. refl })
       was is 0
       (zeros-played resting 0 refl refl (length was) was is (only-zeros was is e))
-      h (le_refl _) _ _ refl
+      (λ h. h) (le_refl _) _ _ (λ _. refl)

@@ -1,13 +1,13 @@
 -- 01, "The set": "where a stage ends, the rest of the buffer, from its first unwritten sample, is lent on to the next". What a stage's writer
 -- promises of the part that is lent to it. It stops where its stage ends, so how much it wrote, and whether that is all of the stage, is its own to say.
-use Rattle.std.specs.Prelude.{ℕ, zero, suc, leb, ◌≤◌, ◌<◌, ◌≡◌, List, [], ◌∷◌, ◌++◌, length, drop, Float}
-use Rattle.math.specs.Narrow.{narrowed}
+use Rattle.std.specs.Prelude.{ℕ, suc, leb, ◌≤◌, ◌<◌, ◌≡◌, List, ◌++◌, length, drop, Float}
 use Rattle.schedule.specs.Time.{time_at, saturating_inc}
 use Rattle.nco.specs.declared.Nco.{Nco}
 use Rattle.tones.specs.declared.Mixed.{Mixed}
 use Rattle.tones.specs.Samples.{shifted, click_sample}
 use Rattle.fsk.specs.declared.FskChannel.{FskChannel}
 use Rattle.fsk.specs.Channel.{channel_sample, next_channel}
+use Rattle.fsk.specs.Played.{Source, left, PlayedIs}
 use Rattle.stage.specs.declared.StageState.{StageState}
 use Rattle.stage.specs.Stage.{shown_of}
 use Rattle.stage.specs.Next.{onward}
@@ -17,18 +17,13 @@ use Rattle.overture.specs.declared.Pair.{Pair}
 use Rattle.overture.specs.declared.Click.{Click}
 use Rattle.overture.specs.Iteration.{after, samples}
 
--- from the state s, over a part that held `was` and now holds `is`
+-- from the state s, over a part that held `was` and now holds `is`. Where there is no room nothing is written, and nothing is said of the state
 pub record WroteIs (s : StageState) (digits : List ℕ) (r : ℕ) (was is : List Float) (w : Wrote) : Type 0 where
-  pub some : 0 < w.written
+  pub some : 0 < length was → 0 < w.written
   pub fits : w.written ≤ length was
   pub buffer : is ≡ samples w.written s digits r ++ drop w.written was
-  pub state : onward w.ended w.state digits r ≡ after w.written s digits r
+  pub state : 0 < w.written → onward w.ended w.state digits r ≡ after w.written s digits r
   pub same : (k : ℕ) → k < w.written → shown_of (after k s digits r) digits ≡ shown_of s digits
-
--- What makes samples, one after another: the sample of what is in hand, and what is in hand after it.
-pub record Source (X : Type 0) : Type 0 where
-  pub sample : X → Float
-  pub next : X → X
 
 -- two oscillators, mixed by f
 abbrev pub mixing : (Nco → Nco → Mixed) → Source Pair
@@ -45,23 +40,9 @@ clicking r = record {
   next = λ c. record { rng = shifted c.rng; n = saturating_inc c.n };
 }
 
--- what is in hand after k samples from x, and those samples, narrowed
-unfoldable pub left : {X : Type 0} → Source X → ℕ → X → X
-left f zero x = x
-left f (suc k) x = f.next (left f k x)
-
-unfoldable pub made : {X : Type 0} → Source X → ℕ → X → List Float
-made f zero x = []
-made f (suc k) x = made f k x ++ (narrowed (f.sample (left f k x)) ∷ [])
-
--- over a part's front: the samples from x, with y left
-pub record PlayedIs {X : Type 0} (f : Source X) (count : ℕ) (x : X) (was is : List Float) (y : X) : Type 0 where
-  pub buffer : is ≡ made f count x ++ drop count was
-  pub rest : y ≡ left f count x
-
 -- bits until all `total` are done, or until the part is full
 pub record SentIs (f : FskChannel) (payload : List ℕ) (total : ℕ) (was is : List Float) (w : Sent) : Type 0 where
-  pub some : 0 < w.written
+  pub some : 0 < length was → 0 < w.written
   pub fits : w.written ≤ length was
   pub played : PlayedIs (sending payload) w.written f was is w.fsk
   pub early : (j : ℕ) → suc j < w.written → (left (sending payload) (suc j) f).done < total

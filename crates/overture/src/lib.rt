@@ -9,12 +9,14 @@ ghost use Rattle.stage.specs.declared.StageState.TheVariants.{OffHook, DialTone,
 ghost use Rattle.stage.specs.Next.{dial_state, onward};
 ghost use Rattle.tones.specs.declared.Mixed.{Mixed};
 ghost use Rattle.nco.specs.declared.Nco.{Nco};
+ghost use Rattle.fsk.specs.Channel.{next_channel};
+ghost use Rattle.fsk.specs.Played.{PlayedIs};
 ghost use Rattle.tones.specs.Mixed.{gated_of, answer_of};
 ghost use Rattle.overture.specs.Iteration.{after, samples, shown_after, zeros};
 ghost use Rattle.overture.specs.declared.Sent.{Sent};
-ghost use Rattle.overture.specs.Writers.{WroteIs, SentIs, AllSent, PlayedIs, mixing, clicking};
+ghost use Rattle.overture.specs.Writers.{WroteIs, SentIs, AllSent, mixing, clicking};
 
-use fsk::FskChannel;
+use fsk::{FskChannel, Keyed, Modulator};
 use nco::Nco;
 use stage::{Shown, StageState};
 use tones::{Dial, Mixed};
@@ -25,6 +27,19 @@ pub struct Wrote {
     pub state: StageState,
     pub ended: bool,
     pub written: usize,
+}
+
+impl Wrote {
+    // Of a stage that ends at a count: it stands at k after the samples written.
+    fn counted(state: StageState, k: u32, end: u64, written: usize) -> Wrote
+        ensures { result ≡ record { state = state; ended = leb end k; written = written } }
+    {
+        Wrote {
+            state,
+            ended: k as u64 >= end,
+            written,
+        }
+    }
 }
 
 // The channel after the bits written, and how many samples they are.
@@ -130,40 +145,51 @@ fn play_answer(carrier: Nco, env: Nco, sign: f64, count: usize, out: &mut [f32])
     )
 }
 
-// Bits, until all are done: the four stages that send some share this loop. It takes two samples a
-// turn, so that their sines share the lanes of one division. It counts by hand: it may end between
-// the two, and over pairs of samples the count of those written would stand beside the iterator.
+// A payload's bits on their channel, of which `total` are sent.
+#[derive(Clone, Copy)]
+struct Bits<'a> {
+    fsk: FskChannel,
+    payload: &'a [u8],
+    total: u16,
+}
+
+impl Keyed for Bits<'_> {
+    ghost modulator_of = { λ bits. bits.fsk.modulator };
+
+    ghost next_of = { λ bits. record bits { fsk = next_channel bits.fsk bits.payload.now } };
+
+    ghost ends = { λ bits. leb bits.total bits.fsk.done };
+
+    fn modulator(self) -> Modulator {
+        self.fsk.modulator
+    }
+
+    fn moved(self) -> Self {
+        Bits {
+            fsk: self.fsk.moved(self.payload),
+            ..self
+        }
+    }
+
+    fn ended(self) -> bool {
+        self.fsk.done >= self.total
+    }
+}
+
+// Bits, until all are done or the part is full: the four stages that send some share this.
 fn write_bits(fsk: FskChannel, payload: &[u8], total: u16, out: &mut [f32]) -> Sent
-    requires { 0 < length out.old }
     ensures { SentIs fsk payload.now total out.old out.new result }
 {
-    let mut f = fsk;
-    let mut i: usize = 0;
-    while out.len() - i > 1 {
-        let g = f.moved(payload);
-        let m = f.modulator;
-        let n = g.modulator;
-        let (a, b) = fsk::sample_twice(m, n);
-        out[i] = math::narrow(a);
-        i += 1;
-        if g.done >= total {
-            return Sent { fsk: g, written: i };
-        }
-        let h = g.moved(payload);
-        out[i] = math::narrow(b);
-        i += 1;
-        if h.done >= total {
-            return Sent { fsk: h, written: i };
-        }
-        f = h;
+    let bits = Bits {
+        fsk,
+        payload,
+        total,
+    };
+    let (last, written) = fsk::play(bits, out);
+    Sent {
+        fsk: last.fsk,
+        written,
     }
-    if i < out.len() {
-        let m = f.modulator;
-        out[i] = math::narrow(m.sample());
-        i += 1;
-        f = f.moved(payload);
-    }
-    Sent { fsk: f, written: i }
 }
 
 // A stage that ends with its bits; `at` makes its state of the channel.
@@ -174,8 +200,7 @@ fn write_all_bits<F: FnOnce(FskChannel) -> StageState>(
     total: u16,
     out: &mut [f32],
 ) -> Wrote
-    requires callable { F.IsAlwaysCallable at }
-    requires room { 0 < length out.old }
+    requires { F.IsAlwaysCallable at }
     ensures { (w : Sent) × AllSent fsk payload.now total out.old out.new (F.post at) w result }
 {
     let w = write_bits(fsk, payload, total, out);
@@ -206,7 +231,6 @@ impl Call<'_> {
     }
 
     fn write_off_hook(&self, rng: u64, n: u32, out: &mut [f32]) -> Wrote
-        requires { 0 < length out.old }
         ensures { WroteIs (OffHook rng n) self.now.digits.now self.now.rate out.old out.new result }
     {
         let end = schedule::stage_samples_for(stage::OFF_HOOK_S, self.rate);
@@ -214,16 +238,10 @@ impl Call<'_> {
         let c = play_click(rng, n, self.rate, count, out);
         let k = c.n;
         let state = StageState::OffHook { rng: c.rng, n: k };
-        let ended = k as u64 >= end;
-        Wrote {
-            state,
-            ended,
-            written: count,
-        }
+        Wrote::counted(state, k, end, count)
     }
 
     fn write_dial_tone(&self, a: Nco, b: Nco, n: u32, out: &mut [f32]) -> Wrote
-        requires { 0 < length out.old }
         ensures { WroteIs (DialTone a b n) self.now.digits.now self.now.rate out.old out.new result }
     {
         let end = schedule::stage_samples_for(stage::DIAL_TONE_S, self.rate);
@@ -235,23 +253,18 @@ impl Call<'_> {
             b: p.b,
             n: k,
         };
-        let ended = k as u64 >= end;
-        Wrote {
-            state,
-            ended,
-            written: count,
-        }
+        Wrote::counted(state, k, end, count)
     }
 
-    // One sample, with which digit and tone may change and the stage may end.
+    // One sample where there is room, with which digit and tone may change and the stage may end.
     fn write_dialled(&self, dial: Dial, n: u32, out: &mut [f32]) -> Wrote
-        requires { 0 < length out.old }
         ensures { WroteIs (dial_state dial n) self.now.digits.now self.now.rate out.old out.new result }
     {
         let k = n.saturating_add(1);
         let d = tones::dial_step(dial, k, self.digits, self.rate);
         let x = d.dial;
-        out[0] = math::narrow(d.sample);
+        let written = out.len().min(1);
+        out[..written].fill(math::narrow(d.sample));
         let state = StageState::Dialling {
             digit_i: x.digit,
             in_tone: x.tone,
@@ -262,13 +275,12 @@ impl Call<'_> {
         Wrote {
             state,
             ended: d.finished,
-            written: 1,
+            written,
         }
     }
 
     // A run of one digit's tone or gap, where one is known.
     fn write_dialling(&self, dial: Dial, n: u32, out: &mut [f32]) -> Wrote
-        requires { 0 < length out.old }
         ensures { WroteIs (dial_state dial n) self.now.digits.now self.now.rate out.old out.new result }
     {
         let i = dial.digit;
@@ -295,7 +307,6 @@ impl Call<'_> {
     }
 
     fn write_ringback(&self, a: Nco, b: Nco, n: u32, ring: u8, out: &mut [f32]) -> Wrote
-        requires { 0 < length out.old }
         ensures { WroteIs (Ringback a b n ring) self.now.digits.now self.now.rate out.old out.new result }
     {
         let end = schedule::stage_samples_for(stage::RING_STAGE_S, self.rate);
@@ -310,16 +321,10 @@ impl Call<'_> {
             n: k,
             ring: progress.ring,
         };
-        let ended = k as u64 >= end;
-        Wrote {
-            state,
-            ended,
-            written: count,
-        }
+        Wrote::counted(state, k, end, count)
     }
 
     fn write_ansam(&self, carrier: Nco, env: Nco, n: u32, out: &mut [f32]) -> Wrote
-        requires { 0 < length out.old }
         ensures { WroteIs (Ansam carrier env n) self.now.digits.now self.now.rate out.old out.new result }
     {
         let end = schedule::stage_samples_for(stage::ANSAM_S, self.rate);
@@ -333,17 +338,12 @@ impl Call<'_> {
             env: p.b,
             n: k,
         };
-        let ended = k as u64 >= end;
-        Wrote {
-            state,
-            ended,
-            written: count,
-        }
+        Wrote::counted(state, k, end, count)
     }
 
     // Cj's bits; where they end, its zeros are another call's.
     fn write_cj_bits(&self, fsk: FskChannel, n: u32, out: &mut [f32]) -> Wrote
-        requires { (fsk.done < cj_bits) × (0 < length out.old) }
+        requires { fsk.done < cj_bits }
         ensures { WroteIs (Cj fsk n) self.now.digits.now self.now.rate out.old out.new result }
     {
         let w = write_bits(fsk, &frame::CJ_PAYLOAD, schedule::CJ_BITS, out);
@@ -359,7 +359,7 @@ impl Call<'_> {
 
     // Cj's zeros, once its bits are done.
     fn write_cj_silence(&self, fsk: FskChannel, n: u32, out: &mut [f32]) -> Wrote
-        requires { (cj_bits ≤ fsk.done) × (0 < length out.old) }
+        requires { cj_bits ≤ fsk.done }
         ensures { WroteIs (Cj fsk n) self.now.digits.now self.now.rate out.old out.new result }
     {
         let end = schedule::stage_samples_for(stage::CJ_SILENCE_S, self.rate);
@@ -367,16 +367,10 @@ impl Call<'_> {
         write_zeros(count, out);
         let k = runs::saturating_add(n, count);
         let state = StageState::Cj { fsk, silence_n: k };
-        let ended = k as u64 >= end;
-        Wrote {
-            state,
-            ended,
-            written: count,
-        }
+        Wrote::counted(state, k, end, count)
     }
 
     fn write_cj(&self, fsk: FskChannel, n: u32, out: &mut [f32]) -> Wrote
-        requires { 0 < length out.old }
         ensures { WroteIs (Cj fsk n) self.now.digits.now self.now.rate out.old out.new result }
     {
         if fsk.done < schedule::CJ_BITS {
@@ -387,7 +381,6 @@ impl Call<'_> {
 
     // A connected line's zeros.
     fn write_connected(&self, out: &mut [f32]) -> Wrote
-        requires { 0 < length out.old }
         ensures { WroteIs Connected self.now.digits.now self.now.rate out.old out.new result }
     {
         let room = out.len();
@@ -401,7 +394,6 @@ impl Call<'_> {
 
     // Writes samples of the state's stage until the stage ends or the part is full.
     fn write_stage(&self, state: StageState, out: &mut [f32]) -> Wrote
-        requires { 0 < length out.old }
         ensures { WroteIs state self.now.digits.now self.now.rate out.old out.new result }
     {
         match state {
@@ -460,7 +452,7 @@ pub struct Filled {
 }
 
 // Fills the buffer with the samples that follow the state. Where a stage ends, the rest of the
-// buffer, from its first unwritten sample, is lent on to the next stage's writer.
+// buffer, from its first unwritten sample, is lent on to the next stage's writer. Each run says how long it is, so no `for` counts them.
 pub fn read(state: StageState, digits: &[u8], rate: u32, out: &mut [f32]) -> Filled
     ensures out_after { out.new ≡ samples (length out.old) state digits.now rate }
     ensures state_value { result.state ≡ after (length out.old) state digits.now rate }

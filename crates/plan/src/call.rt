@@ -16,6 +16,8 @@ pub struct Call {
 impl Call {
     ghost use Rattle.plan.specs.Plan.{plan_cause};
     ghost use Rattle.plan.specs.Call.{call_digits, IsCallOf};
+    ghost use Rattle.std.specs.Prelude.{take};
+    ghost use Rattle.schedule.specs.Length.{stage_lengths};
 
     // The call of the digits that a dial line would have of the bytes. Declined are a bad rate, and more bytes than a line has, keys or not.
     pub fn new(bytes: &[u8], rate: u32) -> Result<Call, Refusal>
@@ -33,5 +35,17 @@ impl Call {
         ensures { result.now ≡ call_digits self.now }
     {
         &self.digits.keys[..self.digits.len]
+    }
+
+    // The samples of stages 1 to 4, which come before the bits.
+    pub fn before_bits(&self) -> [u32; 4]
+        ensures { result ≡ take 4 (stage_lengths self.now.rate.hertz (length (call_digits self.now))) }
+    {
+        let rate = self.rate.hertz;
+        let click = schedule::stage_samples_for(stage::OFF_HOOK_S, rate) as u32;
+        let tone = schedule::stage_samples_for(stage::DIAL_TONE_S, rate) as u32;
+        let dialling = schedule::dialling_samples(self.digits().len() as u64, rate) as u32;
+        let ringback = schedule::stage_samples_for(stage::RING_STAGE_S, rate) as u32;
+        [click, tone, dialling, ringback]
     }
 }

@@ -55,10 +55,7 @@ fn lengths(call: &Call) -> Plan
     ensures { result ≡ plan_at call.now.rate.hertz (length (call_digits call.now)) }
 {
     let rate = call.rate.hertz;
-    let click = schedule::stage_samples_for(stage::OFF_HOOK_S, rate) as u32;
-    let tone = schedule::stage_samples_for(stage::DIAL_TONE_S, rate) as u32;
-    let dialling = schedule::dialling_samples(call.digits().len() as u64, rate) as u32;
-    let ringback = schedule::stage_samples_for(stage::RING_STAGE_S, rate) as u32;
+    let [click, tone, dialling, ringback] = call.before_bits();
     let ansam = schedule::stage_samples_for(stage::ANSAM_S, rate) as u32;
     let silence = schedule::stage_samples_for(stage::CJ_SILENCE_S, rate) as u32;
     let start = Clock {

@@ -1,7 +1,7 @@
 -- What lies between the ends of a run agrees with them: t never falls as n grows, and neither do t / 0.45, its floor, or t - 3. Rounding
 -- never quotient two numbers round, so no error is worked out. Values are in units of 2 ^ -1074, which hold them all. Assumes nothing.
 use mathlib.Core.Path.{◌≡◌, refl, sym, ap, ◌∙◌, subst}
-use mathlib.Core.Bool.{Bool, true, false, ◌&&◌, beq, and-eq-true_iff}
+use mathlib.Core.Bool.{Bool, true, false, beq, and-eq-true_iff}
 use Prim.Native.Nat.{ℕ, zero, suc, min, max, ◌+◌, ◌-◌, ◌*◌, ◌/◌, ◌%◌, ◌^◌, ◌≤◌, ◌<◌}
 use native.Mathlib.Nat.{le_trans, le_of_eq, le_antisymm, lt_of_le_of_lt, mul_comm, mul-le-mul_right, mul_right_comm, mul-div-le, le-div_iff_mul-le}
 use native.Mathlib.Omega.{arith}
@@ -17,7 +17,7 @@ use Rattle.math.proofs.Tests.{same_test, beq_same}
 use Rattle.math.proofs.Values.{one_value, nat-value, div-by, sub_at, of_le, le-at, lt_at}
 use Rattle.math.proofs.Bounds.{AtMost, at_most, units-at-most}
 use Rattle.math.proofs.Whole.{floor-at}
-use Rattle.schedule.specs.Time.{min_rate, max_rate, time_at}
+use Rattle.schedule.specs.Time.{time_at}
 use Rattle.schedule.specs.Dialling.{digit_at, in_tone}
 use Rattle.schedule.specs.Ansam.{reversal, sign_by, sign_at}
 use Rattle.schedule.specs.Ringback.{ring_cycle, ring_on, ring_off, ring_by, ring_time_by, ring_at, ring_time, ring_tone}
@@ -282,13 +282,6 @@ module _ (r n most c : ℕ) where
       alike : (j : ℕ) → j < c → (ring_at (time_at r (counted j n)) ≡ ring_at (time_at r n)) × (ring_tone (ring_time (time_at r (counted j n))) ≡ ring_tone (ring_time (time_at r n)))
       alike = between (λ t. (ring_at t ≡ ring_at (time_at r n)) × (ring_tone (ring_time t) ≡ ring_tone (ring_time (time_at r n)))) (refl, refl)
           (λ L m k h l. gate-between r L.slow L.fast n k (n + (c - 1)) h l (omega (arith, L.few, L.short, E.fits)) (sym (E.ends m))) E.fits E.known
-
-pub limits : (r n most : ℕ) → (leb min_rate r && leb r max_rate) && (leb n 0x4000_0000 && leb most 0x4000_0000) ≡ true → Limits r n most
-limits r n most e =
-    let (rates, counts) = (and-eq-true_iff (leb min_rate r && leb r max_rate) _).0 e in
-    let (slow, fast) = (and-eq-true_iff (leb min_rate r) _).0 rates in
-    let (few, short) = (and-eq-true_iff (leb n 0x4000_0000) _).0 counts in
-    record { slow = leb-true _ _ slow; fast = leb-true _ _ fast; few = leb-true _ _ few; short = leb-true _ _ short }
 
 -- what is left of a stage
 pub before_end : (n end most c : ℕ) → c ≡ min most (max (end - n) 1) → Before n end most c

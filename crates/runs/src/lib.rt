@@ -2,16 +2,15 @@
 // it once for all of them.
 #![tactic(auto)]
 
-ghost use Rattle.std.specs.Prelude.{◌≡◌, true, ◌&&◌, ℕ, suc, ◌+◌, ◌*◌, ◌≤◌, ◌<◌, leb};
-ghost use Rattle.schedule.specs.Time.{min_rate, max_rate};
-ghost use Rattle.runs.specs.Runs.{counted, Before, OneSign, OneGate, OneKey, EndsAgree, same_reversal, same_part, same_gate};
+ghost use Rattle.std.specs.Prelude.{◌≡◌, true, ℕ, suc, ◌+◌, ◌*◌, ◌≤◌, ◌<◌, MatchOption};
+ghost use Rattle.runs.specs.Runs.{counted, Before, OneSign, OneGate, OneKey, Limits, EndsAgree, same_reversal, same_part, same_gate};
 
-use schedule::{MAX_RATE, MIN_RATE};
+use schedule::Rate;
 
 // Runs are looked for at 01's rates, and up to a count far above any stage's.
 const MAX_COUNT: u32 = 0x4000_0000;
 
-// The count after c samples more; the largest stays.
+// The count after c samples more; the largest stays. std's adds a u32, which a usize may not fit, and says nothing of one sample after another.
 #[tactic(auto, using(crate::proofs::Counted::added_is))]
 pub fn saturating_add(n: u32, c: usize) -> u32
     ensures { result ≡ counted c n }
@@ -28,11 +27,12 @@ pub fn samples_left(n: u32, end: u64, most: usize) -> usize
     most.min(left as usize)
 }
 
-// Whether runs are looked for: elsewhere each sample is a run. No test is a branch.
-fn runs_known(n: u32, rate: u32, most: usize) -> bool
-    ensures { result ≡ ((leb min_rate rate && leb rate max_rate) && (leb n 0x4000_0000 && leb most 0x4000_0000)) }
+// The rate, where runs are looked for: elsewhere each sample is a run.
+fn known_rate(n: u32, rate: u32, most: usize) -> Option<Rate>
+    ensures { MatchOption result (¬ Limits rate n most) (λ known. (known.hertz ≡ rate) × Limits rate n most) }
 {
-    ((rate >= MIN_RATE) & (rate <= MAX_RATE)) & ((n <= MAX_COUNT) & (most <= MAX_COUNT as usize))
+    let rate = Rate::new(rate)?;
+    ((n <= MAX_COUNT) & (most <= MAX_COUNT as usize)).then_some(rate)
 }
 
 fn same_reversal(s: f64, t: f64) -> bool
@@ -64,12 +64,12 @@ fn run<F: Fn(f64, f64) -> bool>(same: F, n: u32, rate: u32, most: usize) -> usiz
     requires { F.IsAlwaysCallable same }
     ensures { EndsAgree (λ s t. F.post same s t true) rate n most result }
 {
-    if runs_known(n, rate, most) {
-        let first = schedule::seconds(n, rate);
+    if let Some(rate) = known_rate(n, rate, most) {
+        let first = schedule::seconds(n, rate.hertz);
         let mut c = most;
         while c > 1 {
             let last = n + (c - 1) as u32;
-            if same(first, schedule::seconds(last, rate)) {
+            if same(first, schedule::seconds(last, rate.hertz)) {
                 return c;
             }
             c /= 2;
@@ -112,8 +112,8 @@ pub fn dialling_run(digit: u64, tone: bool, n: u32, rate: u32, most: usize) -> u
     if digit > 75 {
         return 0;
     }
-    if runs_known(n, rate, most) {
-        let r = rate as u64;
+    if let Some(rate) = known_rate(n, rate, most) {
+        let r = rate.hertz as u64;
         let start = 2 * (digit * r);
         let middle = start + r;
         if tone {

@@ -1,18 +1,17 @@
--- What holds while one bit's samples are written and while a fill goes from bit to bit: what is written so far is the iteration's, and no edge is
+-- What one bit's samples are, and what holds while a fill goes from bit to bit: what is written so far is the iteration's, and no edge is
 -- passed between. Assumes nothing.
 use Prim.Native.Nat.{ℕ, zero, suc, ◌+◌, ◌-◌, ◌≤◌, ◌<◌}
-use native.Mathlib.Numerals.{add-one}
 use native.Mathlib.Nat.{not-suc-le-zero}
 use native.Mathlib.Omega.{arith}
 use mathlib.Core.Path.{◌≡◌, refl, sym, ap, subst, ◌∙◌}
 use mathlib.Core.Bool.{false}
 use mathlib.Core.List.{List, [], ◌∷◌, ◌++◌, append_assoc, append-nil}
-use lib.ListN.{length, take, drop, set, length-append, length-take, length-drop, drop_of_length-le}
-use lib.Seq.{drop-cons, set_at, take_at, drop_at, take_all, drop-drop}
-use lib.Ieee.{Float, nan}
-use borrow.Author.Count.{below_more}
+use lib.ListN.{length, take, drop, length-append, length-take, length-drop, drop_of_length-le}
+use lib.Seq.{take_at, drop_at, take_all, drop-drop}
+use lib.Ieee.{Float}
 use Rattle.math.specs.Narrow.{narrowed}
 use Rattle.fsk.specs.Modulator.{modulator_sample}
+use Rattle.fsk.specs.Played.{Source, left, made, keying, SoundedIs}
 use Rattle.sender.specs.declared.Sender.{Sender}
 use Rattle.sender.specs.declared.Sending.{Sending}
 use Rattle.sender.specs.Sender.{ticked, ready, sample_next, next}
@@ -30,68 +29,33 @@ unfolding tone_samples ticks
 tones-suc zero s = refl
 tones-suc (suc k) s = ap (λ (l : List Float). narrowed (modulator_sample s.modulator) ∷ l) (tones-suc k (ticked s))
 
-tones-length : (k : ℕ) (s : Sender) → length (tone_samples k s) ≡ k
-unfolding tone_samples
-tones-length zero s = refl
-tones-length (suc k) s = ap suc (tones-length k (ticked s))
+-- ---- one bit: a sender as `play` of fsk has it is the wave's
+abbrev keyed_sender : Source Sender
+keyed_sender = keying (λ s. s.modulator) ticked
 
--- ---- one bit: i samples are written, the sender after them is s, and no symbol has ended with one of them
-pub record Playing (s₀ : Sender) (was out : List Float) (s : Sender) (i : ℕ) : Type 0 where
-  pub count : i ≤ length was
-  pub buffer : out ≡ tone_samples i s₀ ++ drop i was
-  pub sender : s ≡ ticks i s₀
-  pub between : (j : ℕ) → j < i → (ticks (suc j) s₀).edge ≡ false
+module _ (s : Sender) where
+  left-ticks : (k : ℕ) → left keyed_sender k s ≡ ticks k s
+  unfolding left ticks
+  left-ticks zero = refl
+  left-ticks (suc k) = ap ticked (left-ticks k) ∙ sym (ticks-suc k s)
 
-module _ (s₀ : Sender) (was : List Float) where
-  pub play-start : Playing s₀ was was s₀ 0
-  unfolding tone_samples ticks
-  play-start = record { count = omega arith; buffer = refl; sender = refl; between = λ j l. absurd (not-suc-le-zero l) }
+  made-tones : (k : ℕ) → made keyed_sender k s ≡ tone_samples k s
+  unfolding made tone_samples
+  made-tones zero = refl
+  made-tones (suc k) = rw (made-tones k, left-ticks k) (sym (tones-suc k s))
 
-  module _ (out : List Float) (s : Sender) (i : ℕ) (P : Playing s₀ was out s i) where
-    pub play-long : length out ≡ length was
-    play-long = ap length P.buffer ∙ simp (length-append, tones-length, length-drop) (omega (arith, P.count))
-
-    below : (j : ℕ) → 0 < j → j < i + 1 → (ticks j s₀).edge ≡ false
-    below zero h l = absurd (not-suc-le-zero h)
-    below (suc j) h l = P.between j (omega arith)
-
-    -- one sample more, v, with which the sender becomes t
-    module _ (l : i < length out) (v : Float) (t : Sender) (ev : v ≡ narrowed (modulator_sample s.modulator)) (et : t ≡ ticked s) where
-      written : set out i v ≡ tone_samples (i + 1) s₀ ++ drop (i + 1) was
-      written =
-          let h : i < length was = subst (λ (n : ℕ). i < n) play-long l in
-          rw (P.buffer, add-one, drop-cons was i nan, ev, P.sender, tones-suc, append_assoc)
-          (set_at (tone_samples i s₀) _ _ _ i (tones-length i s₀))
-
-      went : t ≡ ticks (i + 1) s₀
-      went = rw (et, add-one, ticks-suc, P.sender)
-
-      pub play-ended : PlayedIs s₀ t was (set out i v) (i + 1)
-      play-ended =
-          let h = play-long in
-          record { count = omega arith; some = λ _. omega arith; buffer = written; sender = went; between = below }
-
-      pub play-again : t.edge ≡ false → Playing s₀ was (set out i v) t (i + 1)
-      play-again e =
-          let h = play-long in
-          record {
-            count = omega arith;
-            buffer = written;
-            sender = went;
-            between = below_more (λ (j : ℕ). (ticks (suc j) s₀).edge ≡ false) i P.between (rw (← add-one i, ← went) e);
-          }
-
-    -- the part is full
-    pub play-full : length out ≤ i → PlayedIs s₀ s was out i
-    play-full l =
-        let h = play-long in
-        record {
-          count = P.count;
-          some = λ m. omega arith;
-          buffer = P.buffer;
-          sender = P.sender;
-          between = λ j m n. below j m (omega arith);
-        }
+  pub bit-played : (was is : List Float) (last : Sender) (written : ℕ) → SoundedIs keyed_sender (λ x. x.edge) s was is last written → PlayedIs s last was is written
+  bit-played was is last written S = record {
+    count = S.fits;
+    some = S.some;
+    buffer = S.played.buffer ∙ rw (made-tones written);
+    sender = S.played.rest ∙ left-ticks written;
+    between = early;
+  }
+    where
+      early : (j : ℕ) → 0 < j → j < written → (ticks j s).edge ≡ false
+      early zero h l = absurd (not-suc-le-zero h)
+      early (suc j) h l = ap (λ (x : Sender). x.edge) (sym (left-ticks (suc j))) ∙ S.early j l
 
 -- ---- a fill
 abbrev gone : ℕ → Sending → Sending

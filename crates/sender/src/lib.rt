@@ -7,12 +7,14 @@ ghost use Rattle.std.specs.Prelude.{◌≡◌, length};
 ghost use Rattle.sender.specs.Sender.{unfinished, frame_bit, fresh_sender, fresh_sending, tuned, chosen, ready, ticked, queued, emptied, raised};
 ghost use Rattle.sender.specs.Wave.{after, samples, PlayedIs};
 
-use fsk::Modulator;
+use fsk::{Keyed, Modulator, Tones};
 use queue::Queue;
 
-const MARK: f64 = 1270.0;
-
-const SPACE: f64 = 1070.0;
+// Bell 103's low channel.
+const BELL_103_LOW: Tones = Tones {
+    mark: 1270.0,
+    space: 1070.0,
+};
 
 const FRAME_BITS: u8 = 10;
 
@@ -53,7 +55,7 @@ impl Sender {
         ensures { result ≡ fresh_sender rate }
     {
         Sender {
-            modulator: Modulator::new(MARK, SPACE, rate, true),
+            modulator: Modulator::new(BELL_103_LOW, rate, true),
             byte: 0,
             begun: 0,
             edge: true,
@@ -65,18 +67,37 @@ impl Sender {
         ensures { result ≡ tuned self bit byte begun }
     {
         Sender {
-            modulator: self.modulator.set_bit(MARK, SPACE, bit),
+            modulator: self.modulator.set_bit(BELL_103_LOW, bit),
             byte,
             begun,
             ..self
         }
     }
 
-    // After a sample: the oscillator steps, and the symbol clock.
-    #[tactic(auto, unfolding(crate::specs::Sender::ticked))]
-    fn ticks(self) -> Sender
-        ensures { result ≡ ticked self }
+    // The samples of one bit, until its symbol ends or the part is full, and how many they are.
+    fn play(&mut self, out: &mut [f32]) -> usize
+        ensures { PlayedIs self.old self.new out.old out.new result }
     {
+        let (last, written) = fsk::play(*self, out);
+        *self = last;
+        written
+    }
+}
+
+impl Keyed for Sender {
+    ghost modulator_of = { λ sender. sender.modulator };
+
+    ghost next_of = { ticked };
+
+    ghost ends = { λ sender. sender.edge };
+
+    fn modulator(self) -> Modulator {
+        self.modulator
+    }
+
+    // The oscillator steps, and the symbol clock.
+    #[tactic(auto, unfolding(crate::specs::Sender::ticked))]
+    fn moved(self) -> Sender {
         let mut modulator = self.modulator;
         let edge = modulator.tick();
         Sender {
@@ -86,40 +107,8 @@ impl Sender {
         }
     }
 
-    // The samples of one bit, until its symbol ends or the part is full, and how many they are. Two a
-    // turn, so that their sines share the lanes of one division; a chunk of two would end with the part
-    // and not with the symbol, so the place is counted here, and is the answer.
-    fn play(&mut self, out: &mut [f32]) -> usize
-        ensures { PlayedIs self.old self.new out.old out.new result }
-    {
-        let mut s = *self;
-        let mut written: usize = 0;
-        while out.len() - written > 1 {
-            let t = s.ticks();
-            let (a, b) = fsk::sample_twice(s.modulator, t.modulator);
-            out[written] = math::narrow(a);
-            written += 1;
-            if t.edge {
-                *self = t;
-                return written;
-            }
-            let u = t.ticks();
-            out[written] = math::narrow(b);
-            written += 1;
-            if u.edge {
-                *self = u;
-                return written;
-            }
-            s = u;
-        }
-        if written < out.len() {
-            out[written] = math::narrow(s.modulator.sample());
-            written += 1;
-            *self = s.ticks();
-            return written;
-        }
-        *self = s;
-        written
+    fn ended(self) -> bool {
+        self.edge
     }
 }
 

@@ -7,41 +7,24 @@ use Rattle.session.specs.declared.SessionState.TheVariants.{Idle, Dialling, Answ
 use Rattle.session.specs.declared.Session.{Session}
 use Rattle.session.specs.Session.{filled_in, written_in, key_in, ring_in}
 
+-- what answers the same in the three other states
+same_in : {A : Type 0} (f : SessionState → A) (a : A) → f Idle ≡ a → f Answering ≡ a → f Connected ≡ a → (state : SessionState) → (state ≡ Dialling → ⊥) → f state ≡ a
+same_in f a idle answering connected Dialling other = absurd (other refl)
+same_in f a idle answering connected Idle other = idle
+same_in f a idle answering connected Answering other = answering
+same_in f a idle answering connected Connected other = connected
+
 module _ (state : SessionState) (other : state ≡ Dialling → ⊥) where
   pub still : (s : Session) (b r : ℕ) → filled_in state s b r ≡ s
-  still s b r = go state other
-    where
-      go : (t : SessionState) → (t ≡ Dialling → ⊥) → filled_in t s b r ≡ s
-      go Dialling not = absurd (not refl)
-      go Idle not = refl
-      go Answering not = refl
-      go Connected not = refl
+  still s b r = same_in (λ t. filled_in t s b r) s refl refl refl state other
 
   pub zeroed : (s : Session) (b r : ℕ) → written_in state s b r ≡ zeros b
-  zeroed s b r = go state other
-    where
-      go : (t : SessionState) → (t ≡ Dialling → ⊥) → written_in t s b r ≡ zeros b
-      go Dialling not = absurd (not refl)
-      go Idle not = refl
-      go Answering not = refl
-      go Connected not = refl
+  zeroed s b r = same_in (λ t. written_in t s b r) (zeros b) refl refl refl state other
 
   pub dark : (s : Session) (b r : ℕ) → key_in state s b r ≡ None
-  dark s b r = go state other
-    where
-      go : (t : SessionState) → (t ≡ Dialling → ⊥) → key_in t s b r ≡ None
-      go Dialling not = absurd (not refl)
-      go Idle not = refl
-      go Answering not = refl
-      go Connected not = refl
+  dark s b r = same_in (λ t. key_in t s b r) None refl refl refl state other
 
   pub unrung : (s : StageState) → ring_in state s ≡ 0
-  unrung s = go state other
-    where
-      go : (t : SessionState) → (t ≡ Dialling → ⊥) → ring_in t s ≡ 0
-      go Dialling not = absurd (not refl)
-      go Idle not = refl
-      go Answering not = refl
-      go Connected not = refl
+  unrung s = same_in (λ t. ring_in t s) 0 refl refl refl state other
 
 pub ruleset silent = (still, zeroed, dark, unrung)

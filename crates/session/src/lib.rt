@@ -58,17 +58,12 @@ fn ring(stage: StageState) -> u8
 }
 
 // A session with nothing dialled: no digits, and no samples to come.
-#[tactic(auto, unfolding(keys::specs::Keys::padded))]
 fn quiet_in(state: SessionState) -> Session
     ensures { result ≡ quiet_in state }
 {
-    let digits = Digits {
-        keys: [0u8; 76],
-        len: 0,
-    };
     Session {
         state,
-        digits,
+        digits: Digits::new(),
         m: 0,
         shown: 0,
         stage: StageState::Connected,

@@ -80,7 +80,7 @@ pub enum StageState {
         a: Nco,
         b: Nco,
         n: u32,
-        // that of the last sample made; 1 on entry
+        // that of the last sample made; 1 on entry. A number, and no choice of two: C lends a set in which it may be any
         ring: u8,
     },
     Ci(FskChannel),

@@ -81,7 +81,7 @@ fn charged(units: u64) -> Bill
     }
 }
 
-// Units one after another, until the time is covered.
+// Units one after another, until the time is covered. That ends it, and not a count of units, so it is no `for`.
 fn buy(ms: u64, start: u64) -> u64
     requires { (ms ≤ longest_call) × (start < week_seconds) }
     ensures value { result ≡ units_bought start ms }

@@ -425,13 +425,11 @@ impl Chip {
     fn read_sound(self, address: u8) -> Result<Read, Refusal>
         ensures { result ≡ read_if true (leb address 7) self address }
     {
-        match Register::try_from(address) {
-            Ok(register) => Ok(Read {
-                chip: self.after_read(register),
-                value: self.value(register),
-            }),
-            Err(refusal) => Err(refusal),
-        }
+        let register = Register::try_from(address)?;
+        Ok(Read {
+            chip: self.after_read(register),
+            value: self.value(register),
+        })
     }
 
     // A register is written; a byte for address 0 is typed into the set.
@@ -462,10 +460,9 @@ impl Chip {
         ensures value { result ≡ write_if true (leb address 7) self address value carrier (length out.old) }
         ensures out_after { out.new ≡ outbox_if true (leb address 7) self address value out.old }
     {
-        match Register::try_from(address) {
-            Ok(Register::Data) => self.transmit(value, carrier, out),
-            Ok(register) => Ok(self.store(register, value)),
-            Err(refusal) => Err(refusal),
+        match Register::try_from(address)? {
+            Register::Data => self.transmit(value, carrier, out),
+            register => Ok(self.store(register, value)),
         }
     }
 

@@ -8,7 +8,10 @@ use borrow.Author.Rules.{rules}
 use Rattle.cue.proofs.cue.Goals as goal
 
 pub cue_sample-sample-requires : goal.cue_sample-sample-requires
-cue_sample-sample-requires c = in-limits c.args.set c.args.position (sym (ap answer_number c.in_ok-cue_cause.ensures))
+cue_sample-sample-requires c = (in-limits c.args.set c.args.position (sym (ap answer_number c.in_ok-cue_cause.ensures))).0
+
+pub invariant_of-rate : goal.invariant_of-rate
+invariant_of-rate c = let r = in-limits c.args.set c.args.position (sym (ap answer_number c.in_ok-cue_cause.ensures)) in record { slow = r.1; fast = r.2 }
 
 pub returns : goal.returns
 unfolding cued

@@ -5,10 +5,10 @@ use Rattle.cue.proofs.Cueing.{few-samples}
 use Rattle.cue.proofs.cue_sample.Goals as goal
 
 pub overflow_add-result : goal.overflow_add-result
-overflow_add-result c = let p = c.requires in omega (arith, c.stage_samples_for-click.ensures, c.stage_samples_for-tone.ensures, click-range _ p.1 p.2, dial-tone-range _ p.1 p.2)
+overflow_add-result c = let r = c.args.rate in omega (arith, c.stage_samples_for-click.ensures, c.stage_samples_for-tone.ensures, click-range _ r.slow r.fast, dial-tone-range _ r.slow r.fast)
 
 pub overflow_add-result-2 : goal.overflow_add-result-2
-overflow_add-result-2 c = let p = c.requires in omega (arith, c.stage_samples_for-click.ensures, c.stage_samples_for-tone.ensures, c.samples_of_digits-digits.ensures, click-range _ p.1 p.2, dial-tone-range _ p.1 p.2, few-samples _ _ p.0 p.1 p.2)
+overflow_add-result-2 c = let r = c.args.rate in omega (arith, c.stage_samples_for-click.ensures, c.stage_samples_for-tone.ensures, c.samples_of_digits-digits.ensures, click-range _ r.slow r.fast, dial-tone-range _ r.slow r.fast, few-samples _ _ c.requires r.slow r.fast)
 
 pub overflow_add-result-3 : goal.overflow_add-result-3
-overflow_add-result-3 c = let p = c.requires in omega (arith, c.stage_samples_for-click.ensures, c.stage_samples_for-tone.ensures, c.samples_of_digits-digits.ensures, click-range _ p.1 p.2, dial-tone-range _ p.1 p.2, few-samples _ _ p.0 p.1 p.2)
+overflow_add-result-3 c = let r = c.args.rate in omega (arith, c.stage_samples_for-click.ensures, c.stage_samples_for-tone.ensures, c.samples_of_digits-digits.ensures, click-range _ r.slow r.fast, dial-tone-range _ r.slow r.fast, few-samples _ _ c.requires r.slow r.fast)

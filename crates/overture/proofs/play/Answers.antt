@@ -5,7 +5,8 @@ use lib.ListN.{length-take}
 use Rattle.math.specs.Narrow.{narrowed}
 use Rattle.tones.specs.declared.Mixed.{Mixed}
 use Rattle.overture.specs.declared.Pair.{Pair}
-use Rattle.overture.proofs.Playing.{playing-start, playing-again, playing-done, in-part, part-done, part-played}
+use Rattle.fsk.proofs.Played.{playing-start, playing-again, playing-done}
+use Rattle.overture.proofs.Playing.{in-part, part-done, part-played}
 use Rattle.overture.proofs.play.Goals as goal
 
 pub loop-sample-init : goal.loop-sample-init

@@ -3,7 +3,7 @@ use Rattle.std.proofs.Common.{◌≡◌}
 use Rattle.nco.specs.declared.Nco.{Nco}
 use Rattle.tones.specs.declared.Mixed.{Mixed}
 use Rattle.overture.specs.Writers.{mixing}
-use Rattle.overture.proofs.Playing.{Playing}
+use Rattle.fsk.proofs.Played.{Playing}
 use Rattle.overture.proofs.play.Given as goal
 
 abbrev pub invariant-loop-sample : goal.invariant-loop-sample

@@ -3,7 +3,8 @@ use native.Mathlib.Omega.{arith}
 use mathlib.Core.Path.{sym, ◌∙◌}
 use lib.ListN.{length-take}
 use Rattle.schedule.proofs.Count.{saturating_inc_is}
-use Rattle.overture.proofs.Playing.{playing-start, playing-again, playing-done, in-part, part-done, part-played}
+use Rattle.fsk.proofs.Played.{playing-start, playing-again, playing-done}
+use Rattle.overture.proofs.Playing.{in-part, part-done, part-played}
 use Rattle.overture.proofs.play_click.Goals as goal
 
 pub loop-sample-init : goal.loop-sample-init

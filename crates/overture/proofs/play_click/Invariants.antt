@@ -1,7 +1,7 @@
 -- `play_click` meets its contract: the invariant is `Playing`. Assumes nothing.
 use Rattle.std.proofs.Common.{◌≤◌}
 use Rattle.overture.specs.Writers.{clicking}
-use Rattle.overture.proofs.Playing.{Playing}
+use Rattle.fsk.proofs.Played.{Playing}
 use Rattle.overture.proofs.play_click.Given as goal
 
 abbrev pub invariant-loop-sample : goal.invariant-loop-sample

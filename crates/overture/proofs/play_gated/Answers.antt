@@ -4,9 +4,6 @@ use Rattle.tones.specs.Mixed.{gated_of}
 use Rattle.overture.proofs.Playing.{zeros-played}
 use Rattle.overture.proofs.play_gated.Goals as goal
 
-pub returns-then-on : goal.returns-then-on
-returns-then-on c = rw c.if-on.true c.play_tones.ensures
-
 pub returns : goal.returns
 unfolding gated_of
 returns c = rw c.if-on.false (zeros-played _ _ refl refl _ _ _ c.write_zeros.ensures)

@@ -10,18 +10,6 @@ use Rattle.plan.proofs.Dialled.{call-few}
 use Rattle.plan.proofs.Counts.{dialling-is}
 use Rattle.plan.proofs.lengths.Goals as goal
 
-pub overflow_cast-click : goal.overflow_cast-click
-overflow_cast-click c = omega (arith, c.stage_samples_for-click.ensures, (click-range _ c.args.call.now.rate.slow c.args.call.now.rate.fast).1)
-
-pub overflow_cast-tone : goal.overflow_cast-tone
-overflow_cast-tone c = omega (arith, c.stage_samples_for-tone.ensures, (dial-tone-range _ c.args.call.now.rate.slow c.args.call.now.rate.fast).1)
-
-pub overflow_cast-dialling : goal.overflow_cast-dialling
-overflow_cast-dialling c = omega (arith, c.dialling_samples-dialling.ensures, dialling-is _ c.args.call.now.rate.slow c.args.call.now.rate.fast _ (call-few c.args.call.now _ c.digits.ensures), (dialling-range _ c.args.call.now.rate.slow c.args.call.now.rate.fast _ (call-few c.args.call.now _ c.digits.ensures)).1)
-
-pub overflow_cast-ringback : goal.overflow_cast-ringback
-overflow_cast-ringback c = omega (arith, rw four at c.stage_samples_for-ringback.ensures, (ringback-range _ c.args.call.now.rate.slow c.args.call.now.rate.fast).1)
-
 pub overflow_cast-ansam : goal.overflow_cast-ansam
 overflow_cast-ansam c = omega (arith, rw three at c.stage_samples_for-ansam.ensures, (ansam-range _ c.args.call.now.rate.slow c.args.call.now.rate.fast).1)
 
@@ -53,11 +41,7 @@ overflow_add-cj c = omega (arith, clock-number _ 60 _ c.run_to-ci.ensures.0, (bi
 
 pub returns : goal.returns
 returns c = rw (
-  c.stage_samples_for-click.ensures,
-  c.stage_samples_for-tone.ensures,
-  c.dialling_samples-dialling.ensures ∙ dialling-is _ c.args.call.now.rate.slow c.args.call.now.rate.fast _ (call-few c.args.call.now _ c.digits.ensures),
-  c.digits.ensures,
-  rw four at c.stage_samples_for-ringback.ensures,
+  c.before_bits.ensures,
   rw three at c.stage_samples_for-ansam.ensures,
   c.stage_samples_for-silence.ensures,
   clock-number _ 60 _ c.run_to-ci.ensures.0,

@@ -1,59 +1,28 @@
--- `place::edges` meets its contract: each count is what its clock ensures, and the sums fit by the stages' ranges. Assumes nothing.
-use Rattle.std.proofs.Common.{◌∙◌, arith}
-use Rattle.schedule.proofs.Constants.{four}
+-- `place::edges` meets its contract: each count is the call's, and the sums fit by the stages' ranges. Assumes nothing.
+use Rattle.std.proofs.Common.{ℕ, ◌+◌, ◌≤◌, length, refl, arith}
+use Rattle.math.specs.Float.{one}
+use Rattle.schedule.specs.Time.{samples_in}
+use Rattle.schedule.specs.Length.{click_time, ringback_time, dialling_length}
 use Rattle.schedule.proofs.Lengths.{click-range, dial-tone-range, dialling-range, ringback-range}
 use Rattle.plan.proofs.Dialled.{call-few}
-use Rattle.plan.proofs.Counts.{dialling-is}
+use Rattle.plan.specs.declared.call.Call.{Call}
+use Rattle.plan.specs.Call.{call_digits}
 use Rattle.passage.specs.Lengths.{samples_before}
 use Rattle.handset.proofs.place.edges.Goals as goal
 
-pub overflow_cast-click : goal.overflow_cast-click
-overflow_cast-click c = omega (arith, c.stage_samples_for-click.ensures, (click-range _ c.args.call.now.rate.slow c.args.call.now.rate.fast).1)
-
-pub overflow_cast-tone : goal.overflow_cast-tone
-overflow_cast-tone c = omega (arith, c.stage_samples_for-tone.ensures, (dial-tone-range _ c.args.call.now.rate.slow c.args.call.now.rate.fast).1)
-
-pub overflow_cast-dialling : goal.overflow_cast-dialling
-overflow_cast-dialling c = omega (arith, c.dialling_samples-dialling.ensures, dialling-is _ c.args.call.now.rate.slow c.args.call.now.rate.fast _ (call-few c.args.call.now _ c.digits.ensures), (dialling-range _ c.args.call.now.rate.slow c.args.call.now.rate.fast _ (call-few c.args.call.now _ c.digits.ensures)).1)
-
-pub overflow_cast-ringback : goal.overflow_cast-ringback
-overflow_cast-ringback c = omega (arith, rw four at c.stage_samples_for-ringback.ensures, (ringback-range _ c.args.call.now.rate.slow c.args.call.now.rate.fast).1)
+small : (call : Call) → samples_in click_time call.rate.hertz + samples_in one call.rate.hertz + dialling_length call.rate.hertz (length (call_digits call)) + samples_in ringback_time call.rate.hertz ≤ 0xffff_ffff
+small call = let few = call-few call _ refl in
+    omega (arith, (click-range _ call.rate.slow call.rate.fast).1, (dial-tone-range _ call.rate.slow call.rate.fast).1, (dialling-range _ call.rate.slow call.rate.fast _ few).1, (ringback-range _ call.rate.slow call.rate.fast).1)
 
 pub overflow_add-dial : goal.overflow_add-dial
-overflow_add-dial c = omega (arith, c.stage_samples_for-click.ensures, (click-range _ c.args.call.now.rate.slow c.args.call.now.rate.fast).1, c.stage_samples_for-tone.ensures, (dial-tone-range _ c.args.call.now.rate.slow c.args.call.now.rate.fast).1)
+overflow_add-dial c = rw c.before_bits.ensures (omega (arith, small c.args.call.now))
 
 pub overflow_add-ring : goal.overflow_add-ring
-overflow_add-ring c = omega (
-  arith,
-  c.stage_samples_for-click.ensures,
-  (click-range _ c.args.call.now.rate.slow c.args.call.now.rate.fast).1,
-  c.stage_samples_for-tone.ensures,
-  (dial-tone-range _ c.args.call.now.rate.slow c.args.call.now.rate.fast).1,
-  c.dialling_samples-dialling.ensures,
-  dialling-is _ c.args.call.now.rate.slow c.args.call.now.rate.fast _ (call-few c.args.call.now _ c.digits.ensures),
-  (dialling-range _ c.args.call.now.rate.slow c.args.call.now.rate.fast _ (call-few c.args.call.now _ c.digits.ensures)).1,
-)
+overflow_add-ring c = rw c.before_bits.ensures (omega (arith, small c.args.call.now))
 
 pub overflow_add-end : goal.overflow_add-end
-overflow_add-end c = omega (
-  arith,
-  c.stage_samples_for-click.ensures,
-  (click-range _ c.args.call.now.rate.slow c.args.call.now.rate.fast).1,
-  c.stage_samples_for-tone.ensures,
-  (dial-tone-range _ c.args.call.now.rate.slow c.args.call.now.rate.fast).1,
-  c.dialling_samples-dialling.ensures,
-  dialling-is _ c.args.call.now.rate.slow c.args.call.now.rate.fast _ (call-few c.args.call.now _ c.digits.ensures),
-  (dialling-range _ c.args.call.now.rate.slow c.args.call.now.rate.fast _ (call-few c.args.call.now _ c.digits.ensures)).1,
-  rw four at c.stage_samples_for-ringback.ensures,
-  (ringback-range _ c.args.call.now.rate.slow c.args.call.now.rate.fast).1,
-)
+overflow_add-end c = rw c.before_bits.ensures (omega (arith, small c.args.call.now))
 
 pub returns : goal.returns
 unfolding samples_before
-returns c = rw (
-  c.stage_samples_for-click.ensures,
-  c.stage_samples_for-tone.ensures,
-  c.dialling_samples-dialling.ensures ∙ dialling-is _ c.args.call.now.rate.slow c.args.call.now.rate.fast _ (call-few c.args.call.now _ c.digits.ensures),
-  c.digits.ensures,
-  rw four at c.stage_samples_for-ringback.ensures,
-)
+returns c = rw c.before_bits.ensures

@@ -3,8 +3,8 @@ use Rattle.overture.proofs.Stages.{ansam-wrote}
 use Rattle.overture.proofs.Call.write_ansam.Goals as goal
 
 pub returns : goal.returns
-returns c = ansam-wrote _ _ _ _ _ _ _ _ _ c.samples_left-left.ensures c.reversal_run-count.ensures.fits (c.reversal_run-count.ensures.some (c.samples_left-left.ensures.some c.requires)) c.saturating_add-k.ensures _ _ _ c.reversal_run-count.ensures
+returns c = rw c.counted.ensures (ansam-wrote _ _ _ _ _ _ _ _ _ c.samples_left-left.ensures c.reversal_run-count.ensures.fits c.reversal_run-count.ensures.some c.saturating_add-k.ensures _ _ _ c.reversal_run-count.ensures
     c.stage_samples_for-end.ensures _ _
     c.seconds.ensures
     c.reversal_sign-sign.ensures
-    c.play_answer-p.ensures
+    c.play_answer-p.ensures)

@@ -3,4 +3,4 @@ use Rattle.overture.proofs.Stages.{cj-bits-wrote}
 use Rattle.overture.proofs.Call.write_cj_bits.Goals as goal
 
 pub returns : goal.returns
-returns c = cj-bits-wrote _ _ _ _ _ _ _ c.requires.0 c.write_bits-w.ensures
+returns c = cj-bits-wrote _ _ _ _ _ _ _ c.requires c.write_bits-w.ensures

@@ -4,7 +4,7 @@ use Rattle.overture.proofs.Stages.{cj-silence-wrote}
 use Rattle.overture.proofs.Call.write_cj_silence.Goals as goal
 
 pub returns : goal.returns
-returns c = cj-silence-wrote _ _ _ _ _ _ _ _ _ c.samples_left-count.ensures (le_refl _) (c.samples_left-count.ensures.some c.requires.1) c.saturating_add-k.ensures _
-    c.requires.0
+returns c = rw c.counted.ensures (cj-silence-wrote _ _ _ _ _ _ _ _ _ c.samples_left-count.ensures (le_refl _) (λ h. h) c.saturating_add-k.ensures c.args.fsk
+    c.requires
     c.stage_samples_for-end.ensures
-    c.write_zeros.ensures
+    c.write_zeros.ensures)

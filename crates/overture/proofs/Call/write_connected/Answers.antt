@@ -3,4 +3,4 @@ use Rattle.overture.proofs.Stages.{connected-wrote}
 use Rattle.overture.proofs.Call.write_connected.Goals as goal
 
 pub returns : goal.returns
-returns c = connected-wrote _ _ _ _ c.requires c.silence.ensures
+returns c = connected-wrote _ _ _ _ c.silence.ensures

@@ -4,6 +4,6 @@ use Rattle.overture.proofs.Stages.{dial-tone-wrote}
 use Rattle.overture.proofs.Call.write_dial_tone.Goals as goal
 
 pub returns : goal.returns
-returns c = dial-tone-wrote _ _ _ _ _ _ _ _ _ c.samples_left-count.ensures (le_refl _) (c.samples_left-count.ensures.some c.requires) c.saturating_add-k.ensures _ _ _
+returns c = rw c.counted.ensures (dial-tone-wrote _ _ _ _ _ _ _ _ _ c.samples_left-count.ensures (le_refl _) (λ h. h) c.saturating_add-k.ensures _ _ _
     c.stage_samples_for-end.ensures
-    c.play_tones-p.ensures
+    c.play_tones-p.ensures)

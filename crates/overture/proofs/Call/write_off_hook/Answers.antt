@@ -3,4 +3,4 @@ use Rattle.overture.proofs.Stages.{off-hook-wrote}
 use Rattle.overture.proofs.Call.write_off_hook.Goals as goal
 
 pub returns : goal.returns
-returns c = off-hook-wrote _ _ _ _ _ _ _ _ c.requires c.samples_left-count.ensures c.stage_samples_for-end.ensures _ c.play_click-c.ensures
+returns c = rw c.counted.ensures (off-hook-wrote _ _ _ _ _ _ _ _ c.samples_left-count.ensures c.stage_samples_for-end.ensures _ c.play_click-c.ensures)

@@ -3,10 +3,10 @@ use Rattle.overture.proofs.Stages.{ringback-wrote}
 use Rattle.overture.proofs.Call.write_ringback.Goals as goal
 
 pub returns : goal.returns
-returns c = ringback-wrote _ _ _ _ _ _ _ _ _ c.samples_left-left.ensures c.ring_run-count.ensures.fits (c.ring_run-count.ensures.some (c.samples_left-left.ensures.some c.requires)) c.saturating_add-k.ensures _ _ _ _ c.ring_run-count.ensures
+returns c = rw c.counted.ensures (ringback-wrote _ _ _ _ _ _ _ _ _ c.samples_left-left.ensures c.ring_run-count.ensures.fits c.ring_run-count.ensures.some c.saturating_add-k.ensures _ _ _ _ c.ring_run-count.ensures
     c.stage_samples_for-end.ensures _ _ _ _
     c.seconds.ensures
     c.ring_progress-progress.ensures.1
     c.ringback_gate.ensures
     c.ring_progress-progress.ensures.0
-    c.play_gated-p.ensures
+    c.play_gated-p.ensures)
