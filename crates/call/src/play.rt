@@ -54,7 +54,7 @@ pub fn record(
     samples: &mut [f32],
 ) -> io::Result<()> {
     let mut bytes = Page::<16384>::new();
-    let header = samples::wav::header(total, set.rate());
+    let header = samples::wav::header::<f32>(total, set.rate());
     file.write_all(header.text())?;
     let mut talk = talk::silent(set);
     let mut left = total;

@@ -1,8 +1,6 @@
 // Writes a call's earpiece, the T samples of its keys, dial tone and ringback, to a WAV file of 16-bit samples.
 #![tactic(auto)]
 
-mod wav;
-
 use console::stream::has_word;
 use recording::words;
 use std::env::Env;
@@ -73,14 +71,14 @@ fn record(file: &mut impl Write, digits: &[u8], rate: u32) -> io::Result<()> {
     let mut samples = [0i16; SAMPLES];
     let mut bytes = Page::<8192>::new();
     let total = plan::total_samples(digits, rate);
-    let header = wav::header(total, rate);
+    let header = samples::wav::header::<i16>(total, rate);
     file.write_all(header.text())?;
     for pass in (0..total).step_by(SAMPLES) {
         let count = SAMPLES.min((total - pass) as usize);
         let part = &mut samples[..count];
         handset::earpiece(digits, rate, u64::from(pass), part).map_err(|_| refused())?;
         bytes.clear();
-        wav::put_samples(&mut bytes, part);
+        samples::put_samples(&mut bytes, part);
         file.write_all(bytes.text())?;
     }
     Ok(())
