@@ -3,90 +3,69 @@
 // until that was sent, and writes all samples.
 #![tactic(auto)]
 
-mod file;
 mod play;
 mod stages;
 mod table;
 mod talk;
 
 use console::stream::has_word;
-use recording::words;
+use recording::words::{Words, Wrong};
+use recording::{Target, words};
 use std::env::{Env, FillError};
 use std::rt::Files;
+use text::Page;
 
 fn main(rt: HostRuntime) {
     let errors = rt.stderr();
     if !has_word(&rt, 1) {
-        call(&rt, &errors, b"5551234", 48000, b"call.wav", b"");
+        let target = target(&rt, &errors, b"call.wav");
+        call(&target, b"5551234", 48000, b"");
         return;
     }
     if has_word(&rt, 3) && !has_word(&rt, 5) {
-        with_digits(&rt, &errors);
+        if let Err(wrong) = with_words(&rt, &errors) {
+            words::say(&errors, "call", &wrong);
+        }
         return;
     }
     words::say(
         &errors,
-        b"call",
-        b"it takes DIGITS RATE FILE or DIGITS RATE FILE TEXT, or nothing for 5551234 48000 call.wav",
+        "call",
+        &"it takes DIGITS RATE FILE or DIGITS RATE FILE TEXT, or nothing for 5551234 48000 call.wav",
     );
 }
 
-fn with_digits(rt: &(impl Env + Files + Print), errors: &impl Print) {
-    let mut word = [0u8; 76];
-    match rt.arg(1, &mut word) {
-        Ok(count) => with_rate(rt, errors, &word[..count]),
-        Err(_) => words::long_digits(errors, b"call"),
-    }
-}
-
-fn with_rate(rt: &(impl Env + Files + Print), errors: &impl Print, digits: &[u8]) {
-    if words::all_dialled(digits) {
-        let rate = words::rate(rt);
-        if soundness::rate_ok(rate) {
-            with_file(rt, errors, digits, rate);
-            return;
-        }
-        words::no_rate(errors, b"call");
-        return;
-    }
-    words::no_key(errors, b"call");
-}
-
-fn with_file(rt: &(impl Env + Files + Print), errors: &impl Print, digits: &[u8], rate: u32) {
-    let mut path = [0u8; 4096];
-    match rt.arg(3, &mut path) {
-        Ok(count) => with_text(rt, errors, digits, rate, &path[..count]),
-        Err(_) => words::long_path(errors, b"call"),
-    }
+fn with_words(rt: &(impl Env + Files + Print), errors: &impl Print) -> Result<(), Wrong> {
+    let Words { digits, rate, path } = Words::read(rt)?;
+    let text = text(rt)?;
+    let target = target(rt, errors, path.text());
+    call(&target, digits.text(), rate.hertz, text.text());
+    Ok(())
 }
 
 // A word that is missing is no text, as an empty one is.
-fn with_text(
-    rt: &(impl Env + Files + Print),
-    errors: &impl Print,
-    digits: &[u8],
-    rate: u32,
-    path: &[u8],
-) {
-    let mut message = [0u8; 4096];
-    match rt.arg(4, &mut message) {
-        Ok(count) => call(rt, errors, digits, rate, path, &message[..count]),
-        Err(FillError::TooLong) => words::say(
-            errors,
-            b"call",
-            b"TEXT has more than 4096 bytes; it takes up to 4096",
-        ),
-        Err(FillError::NotPresent) => call(rt, errors, digits, rate, path, b""),
+fn text(words: &impl Env) -> Result<Page<4096>, Wrong> {
+    match words::word(words, 4) {
+        Ok(text) => Ok(text),
+        Err(FillError::NotPresent) => Ok(Page::new()),
+        Err(FillError::TooLong) => Err(Wrong::LongText),
+    }
+}
+
+fn target<'a, R, E>(rt: &'a R, errors: &'a E, path: &'a [u8]) -> Target<'a, R, E> {
+    Target {
+        rt,
+        errors,
+        program: "call",
+        path,
     }
 }
 
 // The fills are made twice: a WAV file's header, which comes first, has to know how many samples follow.
-fn call(
-    rt: &(impl Files + Print),
-    errors: &impl Print,
+fn call<R: Files + Print, E: Print>(
+    target: &Target<R, E>,
     digits: &[u8],
     rate: u32,
-    path: &[u8],
     message: &[u8],
 ) {
     let mut samples = [0.0f32; 4096];
@@ -95,10 +74,10 @@ fn call(
     let end = stages::find_all(dialled, &mut samples, &mut firsts);
     let up = end.set;
     let sent = talk::length(up, end.fills, message, &mut samples);
-    let total = table::between(1, firsts[10]);
+    let total = firsts[10].saturating_sub(1);
     let all = with_sent(total, up.m(), sent);
-    if file::write(rt, errors, path, dialled, message, all, &mut samples) {
-        table::print(rt, errors, &firsts, dialled, up.m(), sent);
+    if target.write(|file| play::record(file, dialled, message, all, &mut samples)) {
+        table::print(target.rt, target.errors, &firsts, dialled, up.m(), sent);
     }
 }
 

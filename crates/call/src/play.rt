@@ -1,7 +1,7 @@
 // The call itself: the dial line typed, and the fills, written as the samples of a WAV file.
 ghost use Rattle.std.specs.Prelude.{◌≤◌};
 
-use crate::talk;
+use crate::talk::Talk;
 use session::SessionState;
 use set::Set;
 use std::io;
@@ -54,9 +54,9 @@ pub fn record(
     samples: &mut [f32],
 ) -> io::Result<()> {
     let mut bytes = Page::<16384>::new();
-    let header = samples::wav::header(total, set.rate());
+    let header = samples::wav::header::<f32>(total, set.rate());
     file.write_all(header.text())?;
-    let mut talk = talk::silent(set);
+    let mut talk = Talk::new(set, message);
     let mut left = total;
     // A proved loop has to end: no call has as many fills as this one allows.
     for fill in 0..u32::MAX {
@@ -66,7 +66,7 @@ pub fn record(
         let n = length(fill);
         if n <= samples.len() {
             let part = &mut samples[..n];
-            talk = talk::fill(talk, message, part);
+            talk = talk.fill(part);
             // Samples past the total are not written.
             let kept = at_most(part.len(), left);
             write(file, &part[..kept as usize], &mut bytes)?;

@@ -53,12 +53,8 @@ fn note(set: Set, before: u8, after: u8, samples: &mut [f32], firsts: &mut [u32]
         let stage = passed + 1;
         let found = edges::first_sample(set, stage, samples).unwrap_or(0);
         let first = set.m().wrapping_add(play::at_most(found, u32::MAX));
-        put(firsts, stage as usize, first);
-    }
-}
-
-fn put(firsts: &mut [u32], at: usize, sample: u32) {
-    if at < firsts.len() {
-        firsts[at] = sample;
+        if let Some(noted) = firsts.get_mut(usize::from(stage)) {
+            *noted = first;
+        }
     }
 }

@@ -14,11 +14,11 @@ pub fn oscillators(output: &impl Print) {
     one(output, b"lent below TAU", 6.283185307179585, 0.25);
     one(output, b"lent at TAU", TAU, 0.25);
     one(output, b"lent below 0", -0.5, 0.25);
-    one(output, b"lent at no number", 0.0 / 0.0, 0.25);
+    one(output, b"lent at no number", f64::NAN, 0.25);
     one(output, b"lent with step 0", 0.5, 0.0);
     one(output, b"lent with step TAU", 0.5, TAU);
     one(output, b"lent with step below 0", 0.5, -0.25);
-    one(output, b"lent with no number for a step", 0.5, 0.0 / 0.0);
+    one(output, b"lent with no number for a step", 0.5, f64::NAN);
 }
 
 // The record is lent again as the first call left it.

@@ -37,13 +37,13 @@ pub fn oscillators(output: &impl Print) {
     tried::calls(
         output,
         b"phase no number",
-        sets::oscillator(0.0 / 0.0, 0.0, 8000.0),
+        sets::oscillator(f64::NAN, 0.0, 8000.0),
     );
     tried::calls(output, b"step TAU", sets::oscillator(0.0, TAU, 8000.0));
     tried::calls(
         output,
         b"step no number",
-        sets::oscillator(0.0, 0.0 / 0.0, 8000.0),
+        sets::oscillator(0.0, f64::NAN, 8000.0),
     );
     tried::calls(
         output,

@@ -1,10 +1,9 @@
 // Writes a call's earpiece, the T samples of its keys, dial tone and ringback, to a WAV file of 16-bit samples.
 #![tactic(auto)]
 
-mod wav;
-
 use console::stream::has_word;
-use recording::words;
+use recording::words::{Words, Wrong};
+use recording::{Target, words};
 use std::env::Env;
 use std::io;
 use std::io::Write;
@@ -21,51 +20,33 @@ fn main(rt: HostRuntime) {
         return;
     }
     if has_word(&rt, 3) && !has_word(&rt, 4) {
-        with_digits(&rt, &errors);
+        if let Err(wrong) = with_words(&rt, &errors) {
+            words::say(&errors, "earpiece", &wrong);
+        }
         return;
     }
     words::say(
         &errors,
-        b"earpiece",
-        b"it takes DIGITS RATE FILE, or nothing for 5551234 8000 earpiece.wav",
+        "earpiece",
+        &"it takes DIGITS RATE FILE, or nothing for 5551234 8000 earpiece.wav",
     );
 }
 
-fn with_digits(rt: &(impl Env + Files), errors: &impl Print) {
-    let mut word = [0u8; 76];
-    match rt.arg(1, &mut word) {
-        Ok(count) => with_rate(rt, errors, &word[..count]),
-        Err(_) => words::long_digits(errors, b"earpiece"),
-    }
-}
-
-fn with_rate(rt: &(impl Env + Files), errors: &impl Print, digits: &[u8]) {
-    if words::all_dialled(digits) {
-        let rate = words::rate(rt);
-        match plan::plan_refusal(digits, rate) {
-            Ok(()) => with_file(rt, errors, digits, rate),
-            Err(_) => words::no_rate(errors, b"earpiece"),
-        }
-        return;
-    }
-    words::no_key(errors, b"earpiece");
-}
-
-fn with_file(rt: &(impl Env + Files), errors: &impl Print, digits: &[u8], rate: u32) {
-    let mut path = [0u8; 4096];
-    match rt.arg(3, &mut path) {
-        Ok(count) => write(rt, errors, digits, rate, &path[..count]),
-        Err(_) => words::long_path(errors, b"earpiece"),
-    }
+fn with_words(rt: &(impl Env + Files), errors: &impl Print) -> Result<(), Wrong> {
+    let Words { digits, rate, path } = Words::read(rt)?;
+    write(rt, errors, digits.text(), rate.hertz, path.text());
+    Ok(())
 }
 
 fn write(rt: &impl Files, errors: &impl Print, digits: &[u8], rate: u32, path: &[u8]) {
-    let mut recording = recording::begin(rt, errors, b"earpiece", path);
-    let good = match &mut recording.file {
-        Some(file) => record(file, digits, rate),
-        None => return,
+    let program = "earpiece";
+    let target = Target {
+        rt,
+        errors,
+        program,
+        path,
     };
-    recording::finish(rt, errors, b"earpiece", path, recording, good);
+    target.write(|file| record(file, digits, rate));
 }
 
 // Writes the header and, in buffers, the T samples behind it.
@@ -73,14 +54,14 @@ fn record(file: &mut impl Write, digits: &[u8], rate: u32) -> io::Result<()> {
     let mut samples = [0i16; SAMPLES];
     let mut bytes = Page::<8192>::new();
     let total = plan::total_samples(digits, rate);
-    let header = wav::header(total, rate);
+    let header = samples::wav::header::<i16>(total, rate);
     file.write_all(header.text())?;
     for pass in (0..total).step_by(SAMPLES) {
         let count = SAMPLES.min((total - pass) as usize);
         let part = &mut samples[..count];
         handset::earpiece(digits, rate, u64::from(pass), part).map_err(|_| refused())?;
         bytes.clear();
-        wav::put_samples(&mut bytes, part);
+        samples::put_samples(&mut bytes, part);
         file.write_all(bytes.text())?;
     }
     Ok(())

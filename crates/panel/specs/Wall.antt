@@ -1,5 +1,5 @@
 -- 01, "Proving cases", the program `wall`: the set after a line's call, and what is printed for the line.
-use Rattle.std.specs.Prelude.{ℕ, ◌*◌, Bool, true, false, ◌&&◌, List, [], ◌∷◌, ◌++◌, leb, ltb, eqb, length, Result, Option, None}
+use Rattle.std.specs.Prelude.{ℕ, ◌*◌, Bool, true, false, ◌&&◌, List, [], ◌∷◌, ◌++◌, leb, ltb, eqb, length, Result, Option, None, Some}
 use Rattle.console.specs.declared.lines.Call.{Call}
 use Rattle.console.specs.declared.lines.Call.TheVariants as call
 use Rattle.keys.specs.declared.Key.{Key}
@@ -31,6 +31,7 @@ use Rattle.report.specs.Report.{report_line}
 use Rattle.panel.specs.declared.shown.Second.{Second}
 use Rattle.panel.specs.declared.shown.Second.TheVariants as second
 use Rattle.panel.specs.declared.shown.Shown.{Shown}
+use Rattle.panel.specs.declared.shown.Told.{Told}
 
 -- refusal (0 none), mode C or D, state, stage, m, two codes (0 none)
 abbrev pub report_of : Set → ℕ → Reply → Report
@@ -45,56 +46,56 @@ report_of set refusal reply =
       second = second_of reply;
     }
 
-abbrev pub shown_of : Set → ℕ → Reply → Second → Bool → Shown
-shown_of set refusal reply second prints = record { set = set; report = report_of set refusal reply; second = second; prints = prints }
+abbrev pub shown_of : Set → ℕ → Reply → Second → Shown
+shown_of set refusal reply second = record { set = set; told = Some (record { report = report_of set refusal reply; second = second }) }
 
 -- other lines leave the set and print nothing
 abbrev pub nothing_shown : Set → Shown
-nothing_shown s = shown_of s 0 reply.None (second.Sent 0) false
+nothing_shown s = record { set = s; told = None }
 
 -- the set's answers: creation, forced data and a fill have no reply, and a typed byte alone sends
 abbrev pub made_shown : Made → Shown
-made_shown a = shown_of a.set (answer_number a.checked) reply.None second.Made true
+made_shown a = shown_of a.set (answer_number a.checked) reply.None second.Made
 
 -- a call on the set s: a declined one leaves it, and has no reply, no key and zeros
 abbrev pub typed_shown : Set → Result Typed Refusal → Shown
-typed_shown s a = shown_of (set_typed s a) (answer_number a) (reply_typed a) (second.Sent (sent_typed a)) true
+typed_shown s a = shown_of (set_typed s a) (answer_number a) (reply_typed a) (second.Sent (sent_typed a))
 
 abbrev pub lapsed_shown : Set → Result Lapsed Refusal → Shown
-lapsed_shown s a = shown_of (set_lapsed s a) (answer_number a) (reply_lapsed a) (second.Sent 0) true
+lapsed_shown s a = shown_of (set_lapsed s a) (answer_number a) (reply_lapsed a) (second.Sent 0)
 
 abbrev pub forced_shown : Set → Result Set Refusal → Shown
-forced_shown s a = shown_of (set_left s a) (answer_number a) reply.None (second.Sent 0) true
+forced_shown s a = shown_of (set_left s a) (answer_number a) reply.None (second.Sent 0)
 
 abbrev pub filled_shown : Set → ℕ → Result Filled Refusal → Shown
-filled_shown s length a = shown_of (set_filled s a) (answer_number a) reply.None (second.Filled length (key_filled a)) true
+filled_shown s length a = shown_of (set_filled s a) (answer_number a) reply.None (second.Filled length (key_filled a))
 
 -- a cue leaves the set
 abbrev pub cued_shown : Set → Result Cued Refusal → Shown
-cued_shown s a = shown_of s (answer_number a) reply.None (second.Cued (sample_cued a) (key_cued a)) true
+cued_shown s a = shown_of s (answer_number a) reply.None (second.Cued (sample_cued a) (key_cued a))
 
 -- a string has no codes of its own: those of its n bytes, and S12, fill three places each, where it is not declined
 abbrev pub string_shown : Set → ℕ → Result TypedAll Refusal → Shown
 string_shown s n a =
     shown_of (told (λ (t : TypedAll). t.set) s a) (answer_number a) reply.None
-    (second.String (told (λ (t : TypedAll). t.sent) 0 a) (told (λ (t : TypedAll). 3 * n) 0 a)) true
+    (second.String (told (λ (t : TypedAll). t.sent) 0 a) (told (λ (t : TypedAll). 3 * n) 0 a))
 
 -- the reader leaves the set, and is not declined
 abbrev pub bits_shown : Set → Reading → Shown
-bits_shown s a = shown_of s 0 reply.None (second.Bits a.taken a.given) true
+bits_shown s a = shown_of s 0 reply.None (second.Bits a.taken a.given)
 
 -- a frame leaves the set; a string of another length than ten prints nothing
 abbrev pub frame_shown : Bool → Set → Result ℕ Refusal → Shown
-frame_shown true s a = shown_of s (answer_number a) reply.None (second.Frame a) true
+frame_shown true s a = shown_of s (answer_number a) reply.None (second.Frame a)
 frame_shown false s a = nothing_shown s
 
 -- 02, E8: the key that the last fill answered leaves the set
 abbrev pub lit_shown : Set → Shown
-lit_shown s = shown_of s 0 reply.None second.Lit true
+lit_shown s = shown_of s 0 reply.None second.Lit
 
 -- 02, E10: a byte that is queued has no reply, and sends nothing into the outbox
 abbrev pub queued_shown : Set → Result Set Refusal → Shown
-queued_shown s a = shown_of (set_left s a) (answer_number a) reply.None (second.Sent 0) true
+queued_shown s a = shown_of (set_left s a) (answer_number a) reply.None (second.Sent 0)
 
 -- a call that asks for more room than there is counts as another line: no line that is read does
 abbrev pub if_room : Bool → Set → Shown → Shown
@@ -166,10 +167,15 @@ lit_after was (second.Bits taken given) = was
 lit_after was (second.Frame answer) = was
 lit_after was second.Lit = was
 
+-- other lines leave it
+abbrev pub lit_left : Option Key → Option Told → Option Key
+lit_left was (Some told) = lit_after was told.second
+lit_left was None = was
+
 -- the line printed
-abbrev pub line_if : Bool → Report → List ℕ
-line_if true report = report_line report
-line_if false report = []
+abbrev pub line_if : Option Told → List ℕ
+line_if (Some told) = report_line told.report
+line_if None = []
 
 abbrev pub line_of : Shown → List ℕ
-line_of shown = line_if shown.prints shown.report
+line_of shown = line_if shown.told

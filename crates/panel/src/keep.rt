@@ -18,7 +18,7 @@ pub fn after(call: Call, string: &mut Page<300>)
     }
 }
 
-// The key that is lit after a line: a fill answers one, and a set made anew has none yet.
+// The key that is lit after a call: a fill answers one, and a set made anew has none yet.
 pub fn lit(was: Option<Key>, second: Second) -> Option<Key>
     ensures { result ≡ lit_after was second }
 {

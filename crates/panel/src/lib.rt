@@ -5,13 +5,14 @@
 ghost use Rattle.std.specs.Prelude.{◌≡◌, false};
 ghost use Rattle.deframe.specs.Read.{answer_of};
 ghost use Rattle.text.specs.Page.{add_of};
-ghost use Rattle.panel.specs.Wall.{read_after, shown_after, kept_after, lit_after, line_of};
+ghost use Rattle.panel.specs.Wall.{read_after, shown_after, kept_after, lit_left, line_of};
 
 use console::lines::{Call, Parser, Pushed};
 use console::stream::{Answers, Program};
 use deframe::Deframer;
 use keys::Key;
 use set::Set;
+use shown::Told;
 use std::io::Read;
 use text::Page;
 
@@ -93,7 +94,7 @@ impl Panel {
         ensures set_after { self.new.set ≡ (shown_after 1200 1200 70000 self.old.string.text (answer_of (read_after 1200 self.old.string.text self.old.reader call)) self.old.set call).set }
         ensures reader_after { self.new.reader ≡ (read_after 1200 self.old.string.text self.old.reader call).place }
         ensures string_after { self.new.string.text ≡ kept_after 300 self.old.string.text call }
-        ensures lit_after { self.new.lit ≡ lit_after self.old.lit (shown_after 1200 1200 70000 self.old.string.text (answer_of (read_after 1200 self.old.string.text self.old.reader call)) self.old.set call).second }
+        ensures lit_after { self.new.lit ≡ lit_left self.old.lit (shown_after 1200 1200 70000 self.old.string.text (answer_of (read_after 1200 self.old.string.text self.old.reader call)) self.old.set call).told }
         ensures page_after { self.old.bits ≡ false → answers.new ≡ add_of answers.old (line_of (shown_after 1200 1200 70000 self.old.string.text (answer_of (read_after 1200 self.old.string.text self.old.reader call)) self.old.set call)) }
     {
         let mut outbox = [0u8; 1200];
@@ -112,10 +113,20 @@ impl Panel {
         keep::after(call, &mut self.string);
         self.set = shown.set;
         self.reader = reading.place;
-        self.lit = keep::lit(self.lit, shown.second);
         shown::put_line(answers, shown);
-        if self.bits && shown.prints {
-            page::put_bits(answers, shown, self.lit, &outbox, &codes, &self.samples);
+        if let Some(Told { second, .. }) = shown.told {
+            self.lit = keep::lit(self.lit, second);
+            if self.bits {
+                page::put_bits(
+                    answers,
+                    self.set,
+                    second,
+                    self.lit,
+                    &outbox,
+                    &codes,
+                    &self.samples,
+                );
+            }
         }
     }
 }

@@ -1,5 +1,5 @@
 // `tap`'s second line, written on a page.
-use crate::shown::{Second, Shown};
+use crate::shown::Second;
 use console::stream::Answers;
 use keys::Key;
 use refusal::Refusal;
@@ -8,14 +8,14 @@ use set::Set;
 // What the call's second line tells.
 pub fn put_bits(
     answers: &mut Answers,
-    shown: Shown,
+    set: Set,
+    second: Second,
     lit: Option<Key>,
     outbox: &[u8],
     codes: &[u8],
     samples: &[f32],
 ) {
-    let set = shown.set;
-    match shown.second {
+    match second {
         Second::Sent(sent) => put_sent(answers, set, outbox, sent),
         Second::Made => put_sent(answers, set, outbox, 0),
         Second::Filled { n, .. } => {

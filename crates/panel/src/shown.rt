@@ -41,13 +41,18 @@ pub enum Second {
     Lit,
 }
 
+// What is printed of a call.
+#[derive(Clone, Copy)]
+pub struct Told {
+    pub report: Report,
+    pub second: Second,
+}
+
 #[derive(Clone, Copy)]
 pub struct Shown {
     pub set: Set,
-    pub report: Report,
-    pub second: Second,
     // other lines than calls print nothing
-    pub prints: bool,
+    pub told: Option<Told>,
 }
 
 pub fn after(
@@ -90,8 +95,9 @@ pub fn after(
 pub fn put_line(answers: &mut Answers, shown: Shown)
     ensures { answers.new ≡ add_of answers.old (line_of shown) }
 {
-    if shown.prints {
-        report::put_report(answers, shown.report);
+    match shown.told {
+        Some(told) => report::put_report(answers, told.report),
+        None => {}
     }
 }
 
@@ -100,7 +106,7 @@ fn made(rate: u32) -> Shown
 {
     let made = Set::new(rate);
     let number = refusal::answer_number(&made.checked);
-    show(made.set, number, Reply::None, Second::Made, true)
+    show(made.set, number, Reply::None, Second::Made)
 }
 
 // Into the outbox's first `n` bytes.
@@ -117,7 +123,7 @@ fn feed(set: Set, byte: u8, carrier: bool, outbox: &mut [u8]) -> Shown
     ensures { result ≡ typed_shown set (typed set byte carrier (length outbox.old)) }
 {
     match set.feed(byte, carrier, outbox) {
-        Ok(typed) => show(typed.set, 0, typed.reply, Second::Sent(typed.sent), true),
+        Ok(typed) => show(typed.set, 0, typed.reply, Second::Sent(typed.sent)),
         Err(refusal) => declined(set, refusal, Second::Sent(0)),
     }
 }
@@ -126,7 +132,7 @@ fn lapsed(set: Set, ns: u64, carrier: bool) -> Shown
     ensures { result ≡ lapsed_shown set (lapsed set ns carrier) }
 {
     match set.advance_time(ns, carrier) {
-        Ok(lapsed) => show(lapsed.set, 0, lapsed.reply, Second::Sent(0), true),
+        Ok(lapsed) => show(lapsed.set, 0, lapsed.reply, Second::Sent(0)),
         Err(refusal) => declined(set, refusal, Second::Sent(0)),
     }
 }
@@ -135,7 +141,7 @@ fn forced(set: Set) -> Shown
     ensures { result ≡ forced_shown set (forced set) }
 {
     match set.force_data_mode() {
-        Ok(forced) => show(forced, 0, Reply::None, Second::Sent(0), true),
+        Ok(forced) => show(forced, 0, Reply::None, Second::Sent(0)),
         Err(refusal) => declined(set, refusal, Second::Sent(0)),
     }
 }
@@ -159,7 +165,7 @@ fn fill(set: Set, samples: &mut [f32]) -> Shown
     match set.process_out(samples) {
         Ok(filled) => {
             let key = filled.key;
-            show(filled.set, 0, Reply::None, Second::Filled { n, key }, true)
+            show(filled.set, 0, Reply::None, Second::Filled { n, key })
         }
         Err(refusal) => {
             let key = None;
@@ -176,7 +182,7 @@ fn cued(set: Set, position: u8) -> Shown
         Ok(cued) => {
             let sample = cued.sample;
             let key = cued.key;
-            show(set, 0, Reply::None, Second::Cued { sample, key }, true)
+            show(set, 0, Reply::None, Second::Cued { sample, key })
         }
         Err(refusal) => {
             let sample = 0;
@@ -215,13 +221,7 @@ fn feed_all(set: Set, string: &[u8], carrier: bool, outbox: &mut [u8], codes: &m
         Ok(all) => {
             let sent = all.sent;
             let places = 3 * string.len();
-            show(
-                all.set,
-                0,
-                Reply::None,
-                Second::String { sent, places },
-                true,
-            )
+            show(all.set, 0, Reply::None, Second::String { sent, places })
         }
         Err(refusal) => {
             let sent = 0;
@@ -237,7 +237,7 @@ fn bits_read(set: Set, reading: Reading) -> Shown
 {
     let taken = reading.taken;
     let given = reading.given;
-    show(set, 0, Reply::None, Second::Bits { taken, given }, true)
+    show(set, 0, Reply::None, Second::Bits { taken, given })
 }
 
 // A string of ten is a frame or is declined; one of another length is no call.
@@ -258,7 +258,6 @@ fn unframed(set: Set, answer: Result<u8, Refusal>) -> Shown
         refusal::answer_number(&answer),
         Reply::None,
         Second::Frame(answer),
-        true,
     )
 }
 
@@ -266,7 +265,7 @@ fn unframed(set: Set, answer: Result<u8, Refusal>) -> Shown
 fn lit(set: Set) -> Shown
     ensures { result ≡ lit_shown set }
 {
-    show(set, 0, Reply::None, Second::Lit, true)
+    show(set, 0, Reply::None, Second::Lit)
 }
 
 // It sends nothing now: the byte is heard once the line is up.
@@ -274,26 +273,26 @@ fn queued(set: Set, byte: u8) -> Shown
     ensures { result ≡ queued_shown set (byte_queued set byte) }
 {
     match set.queue_byte(byte) {
-        Ok(queued) => show(queued, 0, Reply::None, Second::Sent(0), true),
+        Ok(queued) => show(queued, 0, Reply::None, Second::Sent(0)),
         Err(refusal) => declined(set, refusal, Second::Sent(0)),
     }
 }
 
 // A call that is declined leaves the set as it was.
 fn declined(set: Set, refusal: Refusal, second: Second) -> Shown
-    ensures { result ≡ shown_of set (number_of refusal) reply.None second true }
+    ensures { result ≡ shown_of set (number_of refusal) reply.None second }
 {
-    show(set, u8::from(refusal), Reply::None, second, true)
+    show(set, u8::from(refusal), Reply::None, second)
 }
 
 fn nothing(set: Set) -> Shown
     ensures { result ≡ nothing_shown set }
 {
-    show(set, 0, Reply::None, Second::Sent(0), false)
+    Shown { set, told: None }
 }
 
-fn show(set: Set, refusal: u8, reply: Reply, second: Second, prints: bool) -> Shown
-    ensures { result ≡ shown_of set refusal reply second prints }
+fn show(set: Set, refusal: u8, reply: Reply, second: Second) -> Shown
+    ensures { result ≡ shown_of set refusal reply second }
 {
     let report = Report {
         refusal,
@@ -306,8 +305,6 @@ fn show(set: Set, refusal: u8, reply: Reply, second: Second, prints: bool) -> Sh
     };
     Shown {
         set,
-        report,
-        second,
-        prints,
+        told: Some(Told { report, second }),
     }
 }

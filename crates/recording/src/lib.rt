@@ -11,58 +11,168 @@ use text::Page;
 
 pub mod words;
 
-// A file that is being written, in its place or beside it. Where there is none it could not be opened, and that has been said.
+// The file that a program is to write, and where it says what fails.
 #[derive(Drop)]
-pub struct Recording<F> {
-    pub file: Option<F>,
-    beside: bool,
+pub struct Target<'a, R, E> {
+    pub rt: &'a R,
+    pub errors: &'a E,
+    pub program: &'a str,
+    pub path: &'a [u8],
 }
 
-// Opens the file of a path for writing.
-pub fn begin<R: Files>(
-    rt: &R,
-    errors: &impl Print,
-    program: &[u8],
-    path: &[u8],
-) -> Recording<R::File> {
-    if is_link(rt, path) {
-        return in_place(errors, program, path, open_overwrite(rt, path));
-    }
-    match open_append(rt, path) {
-        Ok(file) => opened(rt, errors, program, path, file),
-        Err(why) => missing(rt, errors, program, path, why),
+// A file that is being written.
+#[derive(Drop)]
+enum Recording<F> {
+    InPlace(F),
+    // as FILE.part
+    Beside(F),
+}
+
+impl<F> Recording<F> {
+    fn file(&mut self) -> &mut F {
+        match self {
+            Recording::InPlace(file) => file,
+            Recording::Beside(file) => file,
+        }
     }
 }
 
-// Ends it, and answers whether it stands in its place: `good` says whether all was written, or why not.
-pub fn finish<R: Files>(
-    rt: &R,
-    errors: &impl Print,
-    program: &[u8],
-    path: &[u8],
-    recording: Recording<R::File>,
-    good: io::Result<()>,
-) -> bool {
-    let Recording { file, beside } = recording;
-    match file {
-        Some(file) => {
-            if beside {
-                return put_in_place(rt, errors, program, path, synced(file, good));
+impl<R: Files, E: Print> Target<'_, R, E> {
+    // Has the file written, and answers whether it stands in its place.
+    pub fn write<W: FnOnce(&mut R::File) -> io::Result<()>>(&self, put: W) -> bool
+        requires { W.IsAlwaysCallable put }
+    {
+        match self.open() {
+            Some(mut recording) => {
+                let good = put(recording.file());
+                self.finish(recording, good)
             }
-            written(errors, program, path, good)
+            None => false,
         }
-        None => false,
+    }
+
+    // None where it cannot be opened, which has been said.
+    fn open(&self) -> Option<Recording<R::File>> {
+        if is_link(self.rt, self.path) {
+            return self.in_place(open_overwrite(self.rt, self.path));
+        }
+        match open_append(self.rt, self.path) {
+            Ok(file) => self.opened(file),
+            Err(why) => self.missing(why),
+        }
+    }
+
+    fn in_place(&self, opened: io::Result<R::File>) -> Option<Recording<R::File>> {
+        match opened {
+            Ok(file) => Some(Recording::InPlace(file)),
+            Err(why) => {
+                self.cannot_write(why);
+                None
+            }
+        }
+    }
+
+    fn opened(&self, mut file: R::File) -> Option<Recording<R::File>> {
+        if is_regular(&mut file) {
+            drop(file);
+            return self.beside();
+        }
+        Some(Recording::InPlace(file))
+    }
+
+    // A path that cannot be opened: that of a file to be made, or none.
+    fn missing(&self, why: io::Error) -> Option<Recording<R::File>> {
+        if why.kind() == ErrorKind::NotFound && !self.path.is_empty() {
+            return self.beside();
+        }
+        self.in_place(Err(why))
+    }
+
+    fn beside(&self) -> Option<Recording<R::File>> {
+        match open_new(self.rt, self.part().text()) {
+            Ok(file) => Some(Recording::Beside(file)),
+            Err(why) => {
+                self.cannot_write_first(why);
+                None
+            }
+        }
+    }
+
+    // FILE.part.
+    fn part(&self) -> Page<4104> {
+        let mut name = Page::new();
+        name.put(self.path);
+        name.put(b".part");
+        name
+    }
+
+    // `good` says whether all was written, or why not.
+    fn finish(&self, recording: Recording<R::File>, good: io::Result<()>) -> bool {
+        match recording {
+            Recording::InPlace(_file) => self.written(good),
+            Recording::Beside(file) => self.put_in_place(synced(file, good)),
+        }
+    }
+
+    fn written(&self, good: io::Result<()>) -> bool {
+        match good {
+            Ok(()) => true,
+            Err(why) => {
+                self.cannot_write(why);
+                false
+            }
+        }
+    }
+
+    fn put_in_place(&self, whole: io::Result<()>) -> bool {
+        let part = self.part();
+        let placed = self.written(renamed(self.rt, self.path, part.text(), whole));
+        if !placed {
+            self.remove(part.text());
+        }
+        placed
+    }
+
+    fn remove(&self, part: &[u8]) {
+        if let Err(why) = removed(self.rt, part) {
+            self.fail(": ", part, " is left behind", why);
+        }
+    }
+
+    fn cannot_write(&self, why: io::Error) {
+        self.fail(MUST, self.path, " is not", why);
+    }
+
+    fn cannot_write_first(&self, why: io::Error) {
+        let part = self.part();
+        self.fail(MUST, part.text(), ", which is written first, is not", why);
+    }
+
+    // Says what failed with a path, and the system's word for why.
+    fn fail(&self, before: &str, path: &[u8], after: &str, why: io::Error) {
+        let mut line = Page::<16640>::new();
+        line.put(self.program.as_bytes());
+        line.put(before.as_bytes());
+        put_quoted(&mut line, path);
+        line.put(after.as_bytes());
+        console::stream::fail(self.errors, line.text(), why);
     }
 }
 
-fn written(errors: &impl Print, program: &[u8], path: &[u8], good: io::Result<()>) -> bool {
-    match good {
-        Ok(()) => true,
-        Err(why) => {
-            words::cannot_write(errors, program, path, why);
-            false
+const MUST: &str = ": FILE has to be a path that can be written, and ";
+
+// A byte that would end the quotes or the line is written as its number.
+fn put_quoted(line: &mut Page<16640>, path: &[u8]) {
+    line.put_byte(b'"');
+    for byte in path {
+        if byte.is_ascii_control() || matches!(*byte, b'"' | b'\\') {
+            line.put(b"\\x");
+            line.put_hex(*byte as u64, 2);
+        } else {
+            line.put_byte(*byte);
         }
     }
+    line.put_byte(b'"');
 }
 
 // Whether the path names a symbolic link.
@@ -100,98 +210,11 @@ fn open_new<R: Files>(rt: &R, path: &[u8]) -> io::Result<R::File> {
         .open(rt, named(path)?)
 }
 
-fn opened<R: Files>(
-    rt: &R,
-    errors: &impl Print,
-    program: &[u8],
-    path: &[u8],
-    mut file: R::File,
-) -> Recording<R::File> {
-    if is_regular(&mut file) {
-        drop(file);
-        return beside(rt, errors, program, path);
-    }
-    in_place(errors, program, path, Ok(file))
-}
-
 // Only in a regular file is there a place past the end: a pipe has no places, a device has no such one.
 fn is_regular(file: &mut impl Seek) -> bool {
     match file.seek(SeekFrom::End(1)) {
         Ok(place) => place > 0,
         Err(_) => false,
-    }
-}
-
-fn in_place<F>(
-    errors: &impl Print,
-    program: &[u8],
-    path: &[u8],
-    opened: io::Result<F>,
-) -> Recording<F> {
-    match opened {
-        Ok(file) => Recording {
-            file: Some(file),
-            beside: false,
-        },
-        Err(why) => {
-            words::cannot_write(errors, program, path, why);
-            Recording {
-                file: None,
-                beside: false,
-            }
-        }
-    }
-}
-
-// A path that cannot be opened: that of a file to be made, or none.
-fn missing<R: Files>(
-    rt: &R,
-    errors: &impl Print,
-    program: &[u8],
-    path: &[u8],
-    why: io::Error,
-) -> Recording<R::File> {
-    if (why.kind() == ErrorKind::NotFound) & (path.len() > 0) {
-        return beside(rt, errors, program, path);
-    }
-    in_place(errors, program, path, Err(why))
-}
-
-// FILE.part.
-fn part_of(path: &[u8]) -> Page<4104> {
-    let mut name = Page::new();
-    name.put(path);
-    name.put(b".part");
-    name
-}
-
-fn beside<R: Files>(
-    rt: &R,
-    errors: &impl Print,
-    program: &[u8],
-    path: &[u8],
-) -> Recording<R::File> {
-    create(rt, errors, program, part_of(path).text())
-}
-
-fn create<R: Files>(
-    rt: &R,
-    errors: &impl Print,
-    program: &[u8],
-    part: &[u8],
-) -> Recording<R::File> {
-    match open_new(rt, part) {
-        Ok(file) => Recording {
-            file: Some(file),
-            beside: true,
-        },
-        Err(why) => {
-            words::cannot_write_first(errors, program, part, why);
-            Recording {
-                file: None,
-                beside: true,
-            }
-        }
     }
 }
 
@@ -201,44 +224,9 @@ fn synced(file: impl OpenFile + Drop, good: io::Result<()>) -> io::Result<()> {
     file.sync_all()
 }
 
-fn put_in_place(
-    rt: &impl Files,
-    errors: &impl Print,
-    program: &[u8],
-    path: &[u8],
-    whole: io::Result<()>,
-) -> bool {
-    rename(rt, errors, program, path, part_of(path).text(), whole)
-}
-
-fn rename(
-    rt: &impl Files,
-    errors: &impl Print,
-    program: &[u8],
-    path: &[u8],
-    part: &[u8],
-    whole: io::Result<()>,
-) -> bool {
-    match renamed(rt, path, part, whole) {
-        Ok(()) => true,
-        Err(why) => {
-            words::cannot_write(errors, program, path, why);
-            remove(rt, errors, program, part);
-            false
-        }
-    }
-}
-
 fn renamed(rt: &impl Files, path: &[u8], part: &[u8], whole: io::Result<()>) -> io::Result<()> {
     whole?;
     fs::rename(rt, named(part)?, named(path)?)
-}
-
-fn remove(rt: &impl Files, errors: &impl Print, program: &[u8], part: &[u8]) {
-    match removed(rt, part) {
-        Ok(()) => {}
-        Err(why) => words::cannot_remove(errors, program, part, why),
-    }
 }
 
 fn removed(rt: &impl Files, part: &[u8]) -> io::Result<()> {

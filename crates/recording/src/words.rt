@@ -1,115 +1,83 @@
-// The programs' arguments, and what a program says where one is not accepted.
-use std::env::Env;
-use std::io;
+// The programs' words, and what a program says where one is not accepted.
+use schedule::Rate;
+use std::env::{Env, FillError};
+use std::fmt;
+use std::fmt::Write;
 use text::Page;
 
+// DIGITS RATE FILE.
+#[derive(Drop)]
+pub struct Words {
+    pub digits: Page<76>,
+    pub rate: Rate,
+    pub path: Page<4096>,
+}
+
+impl Words {
+    // The first three words that the program was started with.
+    pub fn read(words: &impl Env) -> Result<Words, Wrong> {
+        let digits = word::<76>(words, 1).map_err(|_| Wrong::LongDigits)?;
+        if !all_dialled(digits.text()) {
+            return Err(Wrong::NoKey);
+        }
+        let rate = Rate::new(rate(words)).ok_or(Wrong::NoRate)?;
+        let path = word::<4096>(words, 3).map_err(|_| Wrong::LongPath)?;
+        Ok(Words { digits, rate, path })
+    }
+}
+
+// What is wrong with a word.
+#[derive(Clone, Copy)]
+pub enum Wrong {
+    LongDigits,
+    NoKey,
+    NoRate,
+    LongPath,
+    LongText,
+}
+
+impl fmt::Display for Wrong {
+    fn fmt<W: fmt::Write>(&self, f: &mut fmt::Formatter<W>) -> fmt::Result {
+        f.write_str(match self {
+            Wrong::LongDigits => {
+                "DIGITS has more than 76 bytes; it takes up to 76 of 0-9, A-D, a-d, * and #"
+            }
+            Wrong::NoKey => {
+                "DIGITS has a byte that is no key; it takes up to 76 of 0-9, A-D, a-d, * and #"
+            }
+            Wrong::NoRate => "RATE is no whole number from 8000 to 192000, in decimal digits",
+            Wrong::LongPath => {
+                "FILE is too long; it takes a path of up to 4095 bytes that can be written"
+            }
+            Wrong::LongText => "TEXT has more than 4096 bytes; it takes up to 4096",
+        })
+    }
+}
+
 // A line of a program's, behind its name.
-pub fn say(errors: &impl Print, program: &[u8], line: &[u8]) {
+pub fn say(errors: &impl Print, program: &str, line: &impl fmt::Display) {
     let mut whole = Page::<128>::new();
-    whole.put(program);
-    whole.put(b": ");
-    whole.put(line);
-    whole.put_byte(b'\n');
+    let _ = writeln!(whole, "{program}: {line}");
     let _ = errors.write_all(whole.text());
 }
 
-pub fn long_digits(errors: &impl Print, program: &[u8]) {
-    say(
-        errors,
-        program,
-        b"DIGITS has more than 76 bytes; it takes up to 76 of 0-9, A-D, a-d, * and #",
-    );
-}
-
-pub fn no_key(errors: &impl Print, program: &[u8]) {
-    say(
-        errors,
-        program,
-        b"DIGITS has a byte that is no key; it takes up to 76 of 0-9, A-D, a-d, * and #",
-    );
-}
-
-pub fn no_rate(errors: &impl Print, program: &[u8]) {
-    say(
-        errors,
-        program,
-        b"RATE is no whole number from 8000 to 192000, in decimal digits",
-    );
-}
-
-pub fn long_path(errors: &impl Print, program: &[u8]) {
-    say(
-        errors,
-        program,
-        b"FILE is too long; it takes a path of up to 4095 bytes that can be written",
-    );
-}
-
-// Says that a path cannot be written, and the system's word for why.
-pub fn cannot_write(errors: &impl Print, program: &[u8], path: &[u8], why: io::Error) {
-    fail_of(
-        errors,
-        program,
-        b": FILE has to be a path that can be written, and ",
-        path,
-        b" is not",
-        why,
-    );
-}
-
-pub fn cannot_write_first(errors: &impl Print, program: &[u8], part: &[u8], why: io::Error) {
-    fail_of(
-        errors,
-        program,
-        b": FILE has to be a path that can be written, and ",
-        part,
-        b", which is written first, is not",
-        why,
-    );
-}
-
-pub fn cannot_remove(errors: &impl Print, program: &[u8], part: &[u8], why: io::Error) {
-    fail_of(errors, program, b": ", part, b" is left behind", why);
-}
-
-fn fail_of(
-    errors: &impl Print,
-    program: &[u8],
-    before: &[u8],
-    path: &[u8],
-    after: &[u8],
-    why: io::Error,
-) {
-    let mut line = Page::<16640>::new();
-    line.put(program);
-    line.put(before);
-    put_quoted(&mut line, path);
-    line.put(after);
-    console::stream::fail(errors, line.text(), why);
-}
-
-// A byte that would end the quotes or the line is written as its number.
-fn put_quoted(line: &mut Page<16640>, path: &[u8]) {
-    line.put_byte(b'"');
-    for byte in path {
-        if byte.is_ascii_control() || matches!(*byte, b'"' | b'\\') {
-            line.put(b"\\x");
-            line.put_hex(*byte as u64, 2);
-        } else {
-            line.put_byte(*byte);
-        }
-    }
-    line.put_byte(b'"');
+// The word at a place, if it has at most N bytes.
+pub fn word<const N: usize>(words: &impl Env, place: usize) -> Result<Page<N>, FillError> {
+    let mut bytes = [0u8; N];
+    let count = words.arg(place, &mut bytes)?;
+    let mut word = Page::new();
+    word.put(&bytes[..count]);
+    Ok(word)
 }
 
 // Whether a dial line would drop none of the bytes.
-pub fn all_dialled(word: &[u8]) -> bool {
+fn all_dialled(word: &[u8]) -> bool {
     let digits = keys::dialled(word);
     digits.len == word.len()
 }
 
 // The second argument as a rate; 0, which is no rate, where it is none.
-pub fn rate(words: &impl Env) -> u32 {
+fn rate(words: &impl Env) -> u32 {
     let mut word = [0u8; 64];
     match words.arg(2, &mut word) {
         Ok(count) => rate_of(&word[..count]),

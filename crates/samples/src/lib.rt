@@ -4,51 +4,125 @@
 pub mod fnv;
 pub mod wav;
 
-ghost use Rattle.std.specs.Prelude.{◌≡◌, to_bits};
+ghost use Rattle.std.specs.Prelude.{◌≡◌, ℕ, List, length, to_bits};
 ghost use Rattle.std.specs.Float.{binary32};
-ghost use Rattle.samples.specs.Bytes.{low_first, bytes_of};
+ghost use Rattle.std.specs.List.{flat_map};
+ghost use Rattle.samples.specs.Bytes.{low_first, float_bytes, whole_bytes, float_size, whole_size};
+ghost use Rattle.samples.specs.Wav.{header_of, whole_header_of, header_by, float_header, whole_header};
 ghost use Rattle.text.specs.Page.{add_of};
 
+use std::convert::AsSlice;
 use text::Page;
+use wav::{FLOAT, WHOLE};
+
+// A sample as a WAV file of one channel has it.
+pub trait Sample: Copy {
+    type Bytes: AsSlice<u8> + Copy;
+
+    ghost SIZE: { ℕ };
+
+    ghost FORMAT: { ℕ };
+
+    // its bytes in the file
+    ghost bytes: { Self → List ℕ };
+
+    // what stands before those of so many samples at a rate
+    ghost header: { ℕ → ℕ → List ℕ };
+
+    // How many bytes a sample has.
+    const SIZE: u8;
+
+    // WAV's number for it.
+    const FORMAT: u16;
+
+    // Its bytes, the low byte first.
+    fn le_bytes(self) -> Self::Bytes
+        ensures { Self.Bytes.items result ≡ bytes self };
+
+    ghost has_size: { (x : Self) → length (bytes x) ≡ SIZE };
+
+    ghost has_header: { (samples rate : ℕ) → header samples rate ≡ header_by FORMAT SIZE samples rate };
+}
+
+impl Sample for f32 {
+    type Bytes = [u8; 4];
+
+    ghost SIZE = { 4 };
+
+    ghost FORMAT = { 3 };
+
+    ghost bytes = { float_bytes };
+
+    ghost header = { header_of };
+
+    ghost has_size = { float_size };
+
+    ghost has_header = { float_header };
+
+    const SIZE: u8 = 4;
+
+    const FORMAT: u16 = FLOAT;
+
+    #[tactic(auto, unfolding(crate::specs::Bytes::low_first, crate::specs::Bytes::float_bytes))]
+    fn le_bytes(self) -> [u8; 4] {
+        bits(self).to_le_bytes()
+    }
+}
+
+impl Sample for i16 {
+    type Bytes = [u8; 2];
+
+    ghost SIZE = { 2 };
+
+    ghost FORMAT = { 1 };
+
+    ghost bytes = { whole_bytes };
+
+    ghost header = { whole_header_of };
+
+    ghost has_size = { whole_size };
+
+    ghost has_header = { whole_header };
+
+    const SIZE: u8 = 2;
+
+    const FORMAT: u16 = WHOLE;
+
+    #[tactic(auto, unfolding(crate::specs::Bytes::low_first, crate::specs::Bytes::whole_bytes))]
+    fn le_bytes(self) -> [u8; 2] {
+        self.to_le_bytes()
+    }
+}
+
+// Puts the samples' bytes on a page. Where the whole does not fit, nothing is put.
+pub fn put_samples<S: Sample, const N: usize>(page: &mut Page<N>, samples: &[S])
+    ensures { page.new ≡ add_of page.old (flat_map S.bytes samples.now) }
+{
+    let room = N - page.text().len();
+    let fits = samples.len() as u128 * u128::from(S::SIZE) <= room as u128;
+    if fits {
+        for sample in samples {
+            page.put(sample.le_bytes().as_slice());
+        }
+    }
+}
 
 // The bit pattern of a sample. A NaN, which no sample is, has one pattern here.
 pub fn bits(sample: f32) -> u32
     ensures { result ≡ to_bits binary32 sample }
 {
-    if sample == sample {
-        return f32::to_bits(sample);
+    if sample.is_nan() {
+        0x7fc0_0000
+    } else {
+        sample.to_bits()
     }
-    0x7fc0_0000
 }
 
 // The number's four lowest bytes, the low byte first.
+#[tactic(auto, unfolding(crate::specs::Bytes::low_first))]
 pub fn low_first(number: u64) -> [u8; 4]
     ensures { result ≡ low_first 4 number }
 {
-    let second = number / 256;
-    let third = second / 256;
-    let fourth = third / 256;
-    [
-        (number % 256) as u8,
-        (second % 256) as u8,
-        (third % 256) as u8,
-        (fourth % 256) as u8,
-    ]
-}
-
-// Puts the samples' bytes on a page. Where the whole does not fit, nothing is put.
-pub fn put_samples<const N: usize>(page: &mut Page<N>, samples: &[f32])
-    ensures { page.new ≡ add_of page.old (bytes_of samples.now) }
-{
-    if page.has_room(samples.len() * 4) {
-        for sample in samples {
-            put_sample(page, *sample);
-        }
-    }
-}
-
-fn put_sample<const N: usize>(page: &mut Page<N>, sample: f32)
-    ensures { page.new ≡ add_of page.old (low_first 4 (to_bits binary32 sample)) }
-{
-    page.put(&low_first(bits(sample) as u64));
+    let [a, b, c, d, ..] = number.to_le_bytes();
+    [a, b, c, d]
 }

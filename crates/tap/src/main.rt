@@ -20,13 +20,7 @@ fn main(rt: HostRuntime) {
 fn is_ext(words: &impl Env) -> bool {
     let mut word = [0u8; 8];
     match words.arg(1, &mut word) {
-        Ok(count) => {
-            if count != 5 {
-                return false;
-            }
-            let dashes = (word[0] == b'-') & (word[1] == b'-');
-            dashes & (word[2] == b'e') & (word[3] == b'x') & (word[4] == b't')
-        }
+        Ok(count) => word[..count] == b"--ext"[..],
         Err(_) => false,
     }
 }

@@ -1,9 +1,13 @@
--- `samples::bits` meets its contract: only a NaN differs from itself. Assumes nothing.
-use Rattle.samples.proofs.Samples.{not-nan, nan-bits}
+-- `samples::bits` meets its contract: the pattern of a NaN is the one that `to_bits` writes for it. Assumes nothing.
+use Rattle.std.proofs.Common.{◌≡◌, true, refl, sym, ◌∙◌}
+use lib.Ieee.{Float, nan, inf, fin, binary32, is_nan, to_bits}
 use Rattle.samples.proofs.bits.Goals as goal
 
-pub float_to_bits-result : goal.float_to_bits-result
-float_to_bits-result c = not-nan _ c.if-sample.true
+nan-bits : (x : Float) → is_nan x ≡ true → 0x7fc0_0000 ≡ to_bits binary32 x
+unfolding is_nan to_bits
+nan-bits nan e = refl
+nan-bits (inf s) e = search
+nan-bits (fin s m k) e = search
 
-pub returns : goal.returns
-returns c = nan-bits _ c.if-sample.false
+pub returns-then-is_nan : goal.returns-then-is_nan
+returns-then-is_nan c = nan-bits _ (sym c.is_nan.ensures.value ∙ c.if-is_nan.true)

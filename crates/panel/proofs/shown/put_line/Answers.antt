@@ -3,5 +3,5 @@ use mathlib.Core.Path.{sym}
 use Rattle.text.proofs.Pages.{add_nothing}
 use Rattle.panel.proofs.shown.put_line.Goals as goal
 
-pub returns-else-shown : goal.returns-else-shown
-returns-else-shown c = rw c.if-shown.false (sym (add_nothing _))
+pub returns-in-None : goal.returns-in-None
+returns-in-None c = rw c.in-None.is (sym (add_nothing _))
