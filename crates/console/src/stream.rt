@@ -44,7 +44,7 @@ pub type Answers = Page<65536>;
 // Once there are more bytes than this, they are written out; those of one line fit into the room that is left.
 const FULL: usize = 60000;
 
-// A program that answers the bytes of its input.
+// A program that answers the bytes of its input. No law is asked of it: one answers lines and another bits, each by its own contracts.
 pub trait Program {
     // Its name, which stands in front of what it says on standard error.
     fn name(&self) -> &'static [u8];
@@ -57,6 +57,7 @@ pub trait Program {
 }
 
 // Runs a program until its input ends, or one of input and output fails, which is said on standard error.
+// No equation is to be had: what it reads and writes goes over handles, whose contracts tell no bytes.
 pub fn run(
     input: &mut impl Read,
     output: &impl Print,
@@ -78,14 +79,16 @@ pub fn run(
     }
 }
 
-// The bytes of one read. Answers whether all that was to be written out was.
+// The bytes of one read; no answer to them waits for the next. Answers whether all that was to be written out was.
 fn take_all(
     output: &impl Print,
     errors: &impl Print,
     program: &mut impl Program,
     bytes: &[u8],
     answers: &mut Answers,
-) -> bool {
+) -> bool
+    ensures { answers.new ≡ fresh_page 65536 }
+{
     for byte in bytes {
         program.take(*byte, answers);
         if answers.text().len() > FULL && !write_out(output, errors, program, answers) {
@@ -102,10 +105,11 @@ fn ended(
     program: &mut impl Program,
     answers: &mut Answers,
 ) -> bool
-    ensures { result ≡ false }
+    ensures value { result ≡ false }
+    ensures answers_after { answers.new ≡ fresh_page 65536 }
 {
     program.finish(answers);
-    write_out(output, errors, program, answers);
+    let _ = write_out(output, errors, program, answers);
     false
 }
 

@@ -6,7 +6,6 @@ use mathlib.Core.Bool.{true}
 use lib.Dec.{lit≤}
 use Rattle.math.specs.Float.{of_nat}
 use Rattle.nco.specs.Nco.{step_of}
-use Rattle.keys.specs.declared.Key.{Key}
 use Rattle.stage.specs.declared.StageState.TheVariants.{Dialling}
 use Rattle.stage.specs.declared.StageState.{StageState}
 use Rattle.stage.specs.Stage.{key_of}
@@ -33,9 +32,10 @@ use Rattle.std.specs.Prelude.{Result, Ok, Err, None}
 use Rattle.refusal.specs.declared.Refusal.{Refusal}
 use Rattle.refusal.specs.Refusal.{answer_number}
 use Rattle.set.specs.Refusals.{Checked, Declined, answered, checked}
-use Rattle.set.proofs.Unchanged.{checked-is, untold}
+use Rattle.set.proofs.Unchanged.{checked-is}
 use Rattle.cue.specs.declared.Cued.{Cued}
 use Rattle.cue.specs.Cue.{cue_cause, found, cued, sample_cued, key_cued}
+use Rattle.cue.proofs.Cueing.{declined-cued}
 use Rattle.cue.proofs.cue.Reads as cue
 
 pub cued-answers : (s : Set) (p : ℕ) (answer : Result Cued Refusal) → answer ≡ cued s p
@@ -47,7 +47,8 @@ cued-answers s p answer is =
       refused,
       λ no.
           let declined : Declined (cue_cause s p) = rw (← refused) no in
-          (untold (cue_cause s p) declined _ 0 (found s p), untold (cue_cause s p) declined _ None (found s p)),
+          let zeros = declined-cued (cue_cause s p) (found s p) declined in
+          (zeros.1, zeros.2),
     )
 
 -- an answer that is no cause is what is found

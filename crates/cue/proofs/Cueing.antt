@@ -20,7 +20,10 @@ use Rattle.session.specs.Session.{state_number, digits_held}
 use Rattle.set.specs.declared.Set.{Set}
 use Rattle.set.specs.Sound.{sound}
 use Rattle.refusal.specs.Refusal.{answer_number}
-use Rattle.cue.specs.Cue.{cuable, cause_of_cue, cue_cause}
+use Rattle.std.specs.Prelude.{Ok, Err, None}
+use Rattle.set.specs.Refusals.{Checked, Declined, answered, checked}
+use Rattle.cue.specs.declared.Cued.{Cued}
+use Rattle.cue.specs.Cue.{cuable, cause_of_cue, cue_cause, sample_cued, key_cued}
 use Rattle.set.proofs.Ranges.{sound-digits, sound-rate}
 
 -- the samples of the digits before a digit, which the schedule tells where there are some; and at most
@@ -32,6 +35,12 @@ digits-samples (suc p) r some h lo hi = rw (le-leb 8000 r lo, le-leb r 192000 hi
 pub few-samples : (p r : ℕ) → p < 76 → 8000 ≤ r → r ≤ 192000 → samples_of_digits r p ≤ 2918401
 few-samples zero r h lo hi = lit≤ tt
 few-samples (suc p) r h lo hi = (dialling-range r lo hi (suc p) (le_of_lt h)).1
+
+-- a cue that is declined has its cause, sample 0 and no key
+pub declined-cued : (c : Checked) (found : Cued) → Declined c
+    → (checked (answered c found) ≡ c) × (sample_cued (answered c found) ≡ 0) × (key_cued (answered c found) ≡ None)
+declined-cued (Ok done) found declined = absurd (declined refl)
+declined-cued (Err cause) found declined = (refl, refl, refl)
 
 module _ (s : Set) (p : ℕ) (accepted : answer_number (cue_cause s p) ≡ 0) where
   able : (sound s ≡ true) × (cuable s p ≡ true)

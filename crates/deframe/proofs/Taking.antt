@@ -7,7 +7,7 @@ use mathlib.Core.Bool.{Bool}
 use mathlib.Core.List.{List, [], ◌∷◌, ◌++◌, append-nil, append_assoc}
 use mathlib.Core.Path.{◌≡◌, refl, sym, ap, ◌∙◌}
 use lib.ListN.{length, take, drop, set, get_or, length-set, take-append-drop, drop_of_length-le}
-use lib.Seq.{drop-cons, take-suc-set, drop-set-lt, drop-drop, length-take-le}
+use lib.Seq.{drop-cons, take-suc-set, drop-set-lt, drop-drop, set_out, length-take-le}
 use Rattle.deframe.specs.declared.Deframer.{Deframer}
 use Rattle.deframe.specs.declared.Reading.{Reading}
 use Rattle.std.specs.Prelude.{Option, None, Some}
@@ -117,7 +117,12 @@ module _ (p₀ : Deframer) (bits out₀ out : List ℕ) (place : Deframer) (give
             later = drop-set-lt (given + 1) out given b (omega arith) ∙ next-later;
           }
 
-      -- the buffer is full
+      -- the buffer is full: the bit is not taken, and the byte not put
+      pub stop-by : length out ≤ given → (whole ≡ ahead i (take given out) (stopped place)) × (set out given b ≡ out)
+      stop-by full = (
+        stepped (Some b) e ∙ ap (λ (n : ℕ). ahead i (take given out) (onward n place next (Some b) (λ r q. read_of r q rest))) (no_more T.long full),
+        set_out out given b full,
+      )
+
       pub taking-stops : length out ≤ given → (reading ≡ answer_of whole) × (out ≡ wrote_of whole out₀)
-      taking-stops full =
-          here (stepped (Some b) e ∙ ap (λ (n : ℕ). ahead i (take given out) (onward n place next (Some b) (λ r q. read_of r q rest))) (no_more T.long full))
+      taking-stops full = here (stop-by full).0

@@ -6,7 +6,7 @@ use Prim.Native.Nat.{ℕ, zero, suc, ◌-◌, ◌≤◌, ◌<◌, zero-le}
 use native.Mathlib.Nat.{le_trans, le_of_eq, zero-lt-suc}
 use native.Mathlib.Omega.{arith}
 use lib.Dec.{leb}
-use lib.ListN.{length, get_or, get_or-eq_default}
+use lib.ListN.{length, get_or, replicate, get_or-eq_default}
 use Rattle.std.specs.Prelude.{Result, Ok, Err, sum}
 use borrow.Author.Tests.{leb-true, le-leb, lt-leb}
 use Rattle.schedule.specs.Rate.{is_rate}
@@ -19,7 +19,8 @@ use Rattle.schedule.proofs.Total.{total-bounds, total-range}
 use Rattle.passage.specs.Overture.{HasLength}
 use Rattle.passage.proofs.Overture.{overture-length}
 use Rattle.refusal.specs.declared.Refusal.{Refusal}
-use Rattle.plan.specs.Plan.{cause_of_plan, plan_cause, digit_count, plan_by, plan_of, counts_of, stage_samples, total_by, total_samples, BoundsOf}
+use Rattle.refusal.specs.Refusal.{answer_number}
+use Rattle.plan.specs.Plan.{plan_refusal_number, cause_of_plan, plan_cause, digit_count, plan_by, plan_of, counts_of, stage_samples, total_by, total_samples, BoundsOf}
 
 -- ---- the causes
 -- accepted is within the limits, and the other way round
@@ -48,6 +49,12 @@ no_rate len r e = rw e
 pub too_many : (len r : ℕ) → 8000 ≤ r → r ≤ 192000 → 76 < len → plan_cause len r ≡ Err Digits
 unfolding plan_cause
 too_many len r lo hi many = rw (le-leb min_rate r lo, le-leb r max_rate hi, lt-leb len max_digits many)
+
+-- a plan that is declined has its cause, and counts that are zero
+pub declined-plan : (k : Result (Unit {0}) Refusal) (r d : ℕ) → (plan_refusal_number k ≡ 0 → ⊥)
+    → (answer_number (plan_by k r d) ≡ plan_refusal_number k) × (counts_of (plan_by k r d) ≡ replicate 9 0) × (total_by k r d ≡ 0)
+declined-plan (Ok accepted) r d h = absurd (h refl)
+declined-plan (Err refusal) r d h = (refl, refl, refl)
 
 pub digits-few : (bytes : List ℕ) → length bytes ≤ 76 → digit_count bytes ≤ 76
 digits-few bytes h = le_trans (digits-fewer bytes) h

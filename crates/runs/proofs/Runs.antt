@@ -255,9 +255,9 @@ only (suc j) c n h l = absurd (no h l)
 module _ (r n most c : ℕ) where
   -- what lies between the ends is alike where it follows from the ends
   between : (P : Float → Type 0) → P (time_at r n)
-      → ((L : Limits r n most) → 1 < c → (k : ℕ) → n ≤ k → k ≤ n + (c - 1) → P (time_at r k))
-      → (c ≤ most) → (1 < c → Limits r n most) → (j : ℕ) → j < c → P (time_at r (counted j n))
-  between P here along fits known j l =
+      → ((L : Limits r n c) → 1 < c → (k : ℕ) → n ≤ k → k ≤ n + (c - 1) → P (time_at r k))
+      → (1 < c → Limits r n c) → (j : ℕ) → j < c → P (time_at r (counted j n))
+  between P here along known j l =
       elim (cases_lt 1 c) [
         | inl m ↦ let L = known m in rw (counted_is j n (omega (arith, L.few, L.short))) (along L m (n + j) (omega arith) (omega arith))
         | inr m ↦ rw (only j c n m l) here
@@ -268,7 +268,7 @@ module _ (r n most c : ℕ) where
     some = E.some;
     fits = E.fits;
     sign = between (λ t. sign_at t ≡ sign_at (time_at r n)) refl
-        (λ L m k h l. sign-between r L.slow L.fast n k (n + (c - 1)) h l (omega (arith, L.few, L.short, E.fits)) (sym (E.ends m))) E.fits E.known;
+        (λ L m k h l. sign-between r L.slow L.fast n k (n + (c - 1)) h l (omega (arith, L.few, L.short)) (sym (E.ends m))) E.known;
   }
 
   pub one_gate : EndsAgree (λ s t. true ≡ same_gate s t) r n most c → OneGate r n most c
@@ -281,7 +281,7 @@ module _ (r n most c : ℕ) where
     where
       alike : (j : ℕ) → j < c → (ring_at (time_at r (counted j n)) ≡ ring_at (time_at r n)) × (ring_tone (ring_time (time_at r (counted j n))) ≡ ring_tone (ring_time (time_at r n)))
       alike = between (λ t. (ring_at t ≡ ring_at (time_at r n)) × (ring_tone (ring_time t) ≡ ring_tone (ring_time (time_at r n)))) (refl, refl)
-          (λ L m k h l. gate-between r L.slow L.fast n k (n + (c - 1)) h l (omega (arith, L.few, L.short, E.fits)) (sym (E.ends m))) E.fits E.known
+          (λ L m k h l. gate-between r L.slow L.fast n k (n + (c - 1)) h l (omega (arith, L.few, L.short)) (sym (E.ends m))) E.known
 
 -- what is left of a stage
 pub before_end : (n end most c : ℕ) → c ≡ min most (max (end - n) 1) → Before n end most c

@@ -61,15 +61,15 @@ unfoldable pub same_gate : Float → Float → Bool
 same_gate s t = eqb (ring_at s) (ring_at t) && same_part (ring_time s) (ring_time t)
 
 -- where runs are looked for: 01's rates, and counts far above any stage's
-pub record Limits (r n most : ℕ) : Type 0 where
+pub record Limits (r n c : ℕ) : Type 0 where
   pub slow : min_rate ≤ r
   pub fast : r ≤ max_rate
   pub few : n ≤ 0x4000_0000
-  pub short : most ≤ 0x4000_0000
+  pub short : c ≤ 0x4000_0000
 
 -- c samples, some if there is room; where they are more than one, the first and the last are alike
 pub record EndsAgree (Alike : Float → Float → Type 0) (r n most c : ℕ) : Type 0 where
   pub some : 0 < most → 0 < c
   pub fits : c ≤ most
-  pub known : 1 < c → Limits r n most
+  pub known : 1 < c → Limits r n c
   pub ends : 1 < c → Alike (time_at r n) (time_at r (n + (c - 1)))
