@@ -5,17 +5,10 @@ use mathlib.Core.Path.{◌≡◌, refl, sym, ap, ◌∙◌}
 use mathlib.Core.List.{List, [], ◌∷◌}
 use mathlib.Core.Bool.{Bool, true, false, ◌&&◌}
 use lib.ListN.{length, take}
-use lib.Dec.{eqb}
-use borrow.Author.Tests.{eqb-true, eqb-false, eq-eqb, ne_eqb}
+use lib.Dec.{eqb, eqb-suc-suc}
+use borrow.Author.Tests.{ne_eqb}
 use Rattle.std.specs.Cmp.Lexicographic.{pointwise}
 use Rattle.command.specs.Command.{begins, is}
-
-one_more : (a b : ℕ) → eqb (suc a) (suc b) ≡ eqb a b
-one_more a b = go (eqb a b) refl
-  where
-    go : (t : Bool) → eqb a b ≡ t → eqb (suc a) (suc b) ≡ eqb a b
-    go true e = eq-eqb (suc a) (suc b) (ap suc (eqb-true a b e)) ∙ sym e
-    go false e = ne_eqb (suc a) (suc b) (λ (f : suc a ≡ suc b). eqb-false a b e (omega arith)) ∙ sym e
 
 and-swap : (a b c : Bool) → (a && (b && c)) ≡ (b && (a && c))
 and-swap true b c = refl
@@ -36,5 +29,5 @@ equal [] [] = refl
 equal [] (b ∷ line) = rw (ne_eqb (suc (length line)) 0 (λ e. omega arith))
 equal (t ∷ text) [] = rw (ne_eqb 0 (suc (length text)) (λ e. omega arith))
 equal (t ∷ text) (b ∷ line) =
-    let both : eqb (length (b ∷ line)) (length (t ∷ text)) ≡ eqb (length line) (length text) = one_more (length line) (length text) in
+    let both : eqb (length (b ∷ line)) (length (t ∷ text)) ≡ eqb (length line) (length text) = eqb-suc-suc (length line) (length text) in
     rw (equal text line) (and-swap (eqb b t) (eqb (length line) (length text)) (begins text line) ∙ ap (λ (same : Bool). same && (eqb b t && begins text line)) (sym both))

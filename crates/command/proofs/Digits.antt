@@ -2,7 +2,7 @@
 use Prim.Native.Nat.{ℕ, ◌+◌, ◌-◌, ◌*◌, ◌≤◌, ◌<◌}
 use native.Mathlib.Omega.{arith}
 use native.Mathlib.Numerals.{add-one}
-use mathlib.Core.Path.{◌≡◌, refl, sym, ap, ◌∙◌}
+use mathlib.Core.Path.{◌≡◌, sym, ap, ◌∙◌}
 use mathlib.Core.List.{List, [], ◌∷◌}
 use mathlib.Core.Bool.{true, false, and-false}
 use lib.Dec.{leb}
@@ -24,9 +24,6 @@ pub record Read (bytes : List ℕ) (i v : ℕ) : Type 0 where
   pub small : v ≤ 255
   pub digits : all_digits (drop i bytes) ≡ all_digits bytes
   pub value : value_from v (drop i bytes) ≡ value_from 0 bytes
-
-pub at_first : (bytes : List ℕ) → Read bytes 0 0
-at_first bytes = record { within = omega arith; small = omega arith; digits = refl; value = refl }
 
 module _ (bytes : List ℕ) (i v : ℕ) (r : Read bytes i v) where
   module _ (more : i < length bytes) where

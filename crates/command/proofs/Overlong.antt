@@ -1,6 +1,6 @@
 -- 02, E1, of whole lines: of the bytes typed into an empty line the first 80 are held, and it ran over just if there were more. A line that ran over
 -- is no command. By induction on the bytes. Assumes nothing.
-use Prim.Native.Nat.{ℕ, ◌+◌, ◌≤◌, ◌<◌, min}
+use Prim.Native.Nat.{ℕ, ◌≤◌, ◌<◌, min}
 use native.Mathlib.Numerals.{add-one}
 use native.Mathlib.Omega.{arith}
 use mathlib.Core.Path.{◌≡◌, refl, sym, ap, subst, ◌∙◌}
@@ -27,29 +27,26 @@ pub record Holds (bytes : List ℕ) (l : Line) : Type 0 where
   pub first : typed l ≡ take 80 bytes
   pub mark : ran_over l ≡ ltb 80 (length bytes)
 
-one_more : (bytes : List ℕ) (b : ℕ) → length (bytes ++ (b ∷ [])) ≡ length bytes + 1
-one_more bytes b = length-append bytes (b ∷ [])
-
 module _ (bytes : List ℕ) (b : ℕ) (l : Line) (h : Holds bytes l) where
   next-by : (t : Bool) → ltb l.len 80 ≡ t → Holds (bytes ++ (b ∷ [])) (pushed_if t l b)
   next-by true e =
       let room : l.len < 80 = ltb-true _ _ e in
       let few : length bytes < 80 = omega (arith, h.number) in
-      let all : take 80 (bytes ++ (b ∷ [])) ≡ take 80 bytes ++ (b ∷ []) = take_all 80 _ (omega (arith, one_more bytes b)) ∙ ap (λ (front : List ℕ). front ++ (b ∷ [])) (sym (take_all 80 bytes (omega arith))) in
+      let all : take 80 (bytes ++ (b ∷ [])) ≡ take 80 bytes ++ (b ∷ []) = take_all 80 _ (omega (arith, length-append bytes (b ∷ []))) ∙ ap (λ (front : List ℕ). front ++ (b ∷ [])) (sym (take_all 80 bytes (omega arith))) in
       record {
         array = length-set l.bytes l.len b ∙ h.array;
-        number = omega (arith, h.number, one_more bytes b);
+        number = omega (arith, h.number, length-append bytes (b ∷ []));
         first = rw add-one (take-suc-set l.bytes l.len b (omega (arith, h.array)) ∙ ap (λ (front : List ℕ). front ++ (b ∷ [])) h.first ∙ sym all);
-        mark = h.mark ∙ le-ltb 80 (length bytes) (omega arith) ∙ sym (le-ltb 80 (length (bytes ++ (b ∷ []))) (omega (arith, one_more bytes b)));
+        mark = h.mark ∙ le-ltb 80 (length bytes) (omega arith) ∙ sym (le-ltb 80 (length (bytes ++ (b ∷ []))) (omega (arith, length-append bytes (b ∷ []))));
       }
   next-by false e =
       let full : 80 ≤ l.len = ltb-false _ _ e in
       let many : 80 ≤ length bytes = omega (arith, h.number) in
       record {
         array = h.array;
-        number = omega (arith, h.number, one_more bytes b);
+        number = omega (arith, h.number, length-append bytes (b ∷ []));
         first = h.first ∙ sym (take-append-le 80 bytes (b ∷ []) many);
-        mark = sym (lt-ltb 80 (length (bytes ++ (b ∷ []))) (omega (arith, one_more bytes b)));
+        mark = sym (lt-ltb 80 (length (bytes ++ (b ∷ []))) (omega (arith, length-append bytes (b ∷ []))));
       }
 
   next : Holds (bytes ++ (b ∷ [])) (pushed l b)

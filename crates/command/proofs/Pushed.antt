@@ -5,7 +5,7 @@ use native.Mathlib.Numerals.{add-one}
 use native.Mathlib.Omega.{arith}
 use mathlib.Core.Path.{◌≡◌, refl, sym, ◌∙◌}
 use mathlib.Core.List.{[], ◌∷◌, ◌++◌}
-use mathlib.Core.Bool.{Bool, true, false, ◌&&◌, not, and-eq-true_iff}
+use mathlib.Core.Bool.{Bool, true, false, ◌&&◌, not, and-eq-true_iff, true≢false}
 use lib.ListN.{length, drop, length-take, length-drop}
 use lib.Seq.{take-suc-set}
 use lib.Dec.{leb, ltb}
@@ -32,10 +32,7 @@ module _ (l : Line) where
       go true e n = e ∙ sym n
 
   pub marked-some : sound_line l ≡ true → ran_over l ≡ true → l.len ≡ 0 → ⊥
-  marked-some s over none = let clash : ◌≡◌ {A = Bool} true false = sym over ∙ unmarked s (omega arith) in no-clash clash
-    where
-      no-clash : true ≡ false → ⊥
-      no-clash e = let no : ◌≡◌ {A = ℕ} 0 1 = cc in omega arith
+  marked-some s over none = true≢false (sym over ∙ unmarked s (omega arith))
 
   sound-by : (t : Bool) (b : ℕ) → ltb l.len 80 ≡ t → sound_line l ≡ true → sound_line (pushed_if t l b) ≡ true
   unfolding sound_line
@@ -59,7 +56,7 @@ module _ (l : Line) where
     where
       go : (t : Bool) → ltb l.len 80 ≡ t → ran_over (pushed_if t l b) ≡ false → typed (pushed_if t l b) ≡ typed l ++ (b ∷ [])
       go true e n = let room = ltb-true l.len 80 e in rw add-one (take-suc-set l.bytes l.len b (omega arith))
-      go false e n = let no : ◌≡◌ {A = ℕ} 0 1 = cc in absurd (omega arith)
+      go false e n = absurd (true≢false n)
 
   -- a byte that finds 80 there is dropped, and the line marked
   pub dropped : (b : ℕ) → 80 ≤ l.len → (typed (pushed l b) ≡ typed l) × (ran_over (pushed l b) ≡ true)

@@ -1,14 +1,15 @@
 -- A frame and its byte are each other's, both ways: computed once for all bytes and once for all eight data bits. Assumes nothing.
 use Prim.Native.Nat.{ℕ, zero, suc, ◌<◌}
-use native.Mathlib.Nat.{le_of_suc-le-suc, eq-or-lt_of_le}
 use native.Mathlib.Omega.{arith}
-use mathlib.Core.Bool.{Bool, true, false, not, ◌&&◌, and-eq-true_iff, true≢false}
+use mathlib.Core.Bool.{Bool, beq, true, false, ◌&&◌, and-eq-true_iff}
 use mathlib.Core.List.{List, [], ◌∷◌}
-use mathlib.Core.Logic.{inl, inr}
-use mathlib.Core.Path.{◌≡◌, refl, sym, ap, subst, ◌∙◌}
+use mathlib.Core.Path.{◌≡◌, refl, sym, ap, ◌∙◌}
 use borrow.Author.Tests.{eqb-true}
 use lib.Dec.{eqb}
 use lib.ListN.{length, take, drop}
+use lib.Pointwise.{pointwise, pointwise_decides}
+use Rattle.std.specs.Cmp.{booleans_Decides}
+use Rattle.std.proofs.lemmas.Bool.{agree_below, agree_below_at}
 use Rattle.frame.specs.Frame.{frame_of, data_bit}
 use Rattle.std.specs.Prelude.{Result, Ok, fold}
 use Rattle.refusal.specs.declared.Refusal.{Refusal}
@@ -16,15 +17,8 @@ use Rattle.deframe.specs.Unframe.{data_of, unframe_of, unframe_by, bit_of}
 use Rattle.deframe.specs.Read.{shifted}
 
 -- ---- tests of all bytes and of all bits
-abbrev all_below : ℕ → (ℕ → Bool) → Bool
-all_below zero f = true
-all_below (suc n) f = f n && all_below n f
-
-below : (n : ℕ) (f : ℕ → Bool) → all_below n f ≡ true → (k : ℕ) → k < n → f k ≡ true
-below zero f e k h = absurd (omega arith)
-below (suc n) f e k h =
-    let (last, rest) = (and-eq-true_iff (f n) (all_below n f)).0 e in
-    elim (eq-or-lt_of_le (le_of_suc-le-suc h)) [ inl q ↦ subst (λ (z : ℕ). f z ≡ true) (sym q) last | inr l ↦ below n f rest k l ]
+abbrev always : ℕ → Bool
+always n = true
 
 -- every list of n bits
 abbrev all_bits : ℕ → (List Bool → Bool) → Bool
@@ -42,46 +36,23 @@ of-bits (suc n) f e (true ∷ l) h = of-bits n (λ l. f (true ∷ l)) ((and-eq-t
 abbrev back_to : ℕ → Bool
 back_to b = eqb (data_of (frame_of b)) b
 
-all-bytes : all_below 256 back_to ≡ true
+all-bytes : agree_below back_to always 256 ≡ true
 unfolding data_of frame_of
 all-bytes = refl
 
 pub data-of-frame : (b : ℕ) → b < 256 → data_of (frame_of b) ≡ b
-data-of-frame b h = eqb-true (data_of (frame_of b)) b (below 256 back_to all-bytes b h)
+data-of-frame b h = eqb-true (data_of (frame_of b)) b (agree_below_at back_to always 256 b all-bytes h)
 
 pub frame-unframed : (b : ℕ) → b < 256 → unframe_of (frame_of b) ≡ Ok b
 unfolding unframe_of frame_of
 frame-unframed b h = ap Ok (data-of-frame b h)
 
 -- ---- the frame of a byte
-abbrev same : Bool → Bool → Bool
-same true b = b
-same false b = not b
-
-abbrev same_bits : List Bool → List Bool → Bool
-same_bits [] [] = true
-same_bits [] (b ∷ bs) = false
-same_bits (a ∷ as') [] = false
-same_bits (a ∷ as') (b ∷ bs) = same a b && same_bits as' bs
-
-same_bit : (a b : Bool) → same a b ≡ true → a ≡ b
-same_bit true b e = sym e
-same_bit false true e = absurd (true≢false (sym e))
-same_bit false false e = refl
-
-same_bits_lem : (l m : List Bool) → same_bits l m ≡ true → l ≡ m
-same_bits_lem [] [] e = refl
-same_bits_lem [] (b ∷ m) e = absurd (true≢false (sym e))
-same_bits_lem (a ∷ l) [] e = absurd (true≢false (sym e))
-same_bits_lem (a ∷ l) (b ∷ m) e =
-    let (first, rest) = (and-eq-true_iff (same a b) (same_bits l m)).0 e in
-    rw (same_bit a b first, same_bits_lem l m rest)
-
 -- ten bits that are a frame are the one of their byte
 abbrev fits : (start stop : Bool) → List Bool → Bool
 fits true stop bits = true
 fits false false bits = true
-fits false true bits = same_bits (frame_of (data_of bits)) bits
+fits false true bits = pointwise beq (frame_of (data_of bits)) bits
 
 abbrev frames_back : List Bool → Bool
 frames_back bits = fits (bit_of bits 0) (bit_of bits 9) bits
@@ -97,7 +68,7 @@ unframed-frame bits ten b e = go (bit_of bits 0) (bit_of bits 9) (of-bits 10 fra
     go : (start stop : Bool) → fits start stop bits ≡ true → unframe_by start stop (data_of bits) ≡ Ok b → frame_of b ≡ bits
     go true stop f e = cc
     go false false f e = cc
-    go false true f e = (let same_byte : b ≡ data_of bits = cc in ap frame_of same_byte) ∙ same_bits_lem (frame_of (data_of bits)) bits f
+    go false true f e = (let same_byte : b ≡ data_of bits = cc in ap frame_of same_byte) ∙ (pointwise_decides booleans_Decides (frame_of (data_of bits)) bits).0 f
 
 -- both, of an answer
 pub both_ways : (bits : List Bool) → length bits ≡ 10 → (r : Result ℕ Refusal) → r ≡ unframe_of bits
@@ -116,17 +87,8 @@ all-shift-in = refl
 pub data-shifted-in : (bits : List Bool) → length bits ≡ 10 → fold shifted 0 (take 8 (drop 1 bits)) ≡ data_of bits
 data-shifted-in bits ten = eqb-true _ (data_of bits) (of-bits 10 shifts_in all-shift-in bits ten)
 
--- ---- the data bits, taken in one after another
-abbrev taken : (acc : ℕ) → List Bool → ℕ
-taken acc [] = acc
-taken acc (d ∷ ds) = taken (shifted acc d) ds
-
-abbrev shifts_to : ℕ → Bool
-shifts_to b = eqb (taken 0 (data_bit b 0 ∷ data_bit b 1 ∷ data_bit b 2 ∷ data_bit b 3 ∷ data_bit b 4 ∷ data_bit b 5 ∷ data_bit b 6 ∷ data_bit b 7 ∷ [])) b
-
-all-shifts : all_below 256 shifts_to ≡ true
-all-shifts = refl
-
+-- a frame's own
 pub shifted-data : (b : ℕ) → b < 256
     → shifted (shifted (shifted (shifted (shifted (shifted (shifted (shifted 0 (data_bit b 0)) (data_bit b 1)) (data_bit b 2)) (data_bit b 3)) (data_bit b 4)) (data_bit b 5)) (data_bit b 6)) (data_bit b 7) ≡ b
-shifted-data b h = eqb-true _ b (below 256 shifts_to all-shifts b h)
+unfolding frame_of
+shifted-data b h = data-shifted-in (frame_of b) refl ∙ data-of-frame b h

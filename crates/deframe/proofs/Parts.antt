@@ -74,9 +74,6 @@ one-ahead xs ys n r =
 abbrev afterwards : (room : ℕ) → Read → (n : ℕ) (rest : List Bool) → Read
 afterwards room r n rest = ahead n r.bytes (read_of (room - length r.bytes) r.place rest)
 
-one_less : (n m : ℕ) → n - m ≡ suc n - suc m
-one_less n m = omega arith
-
 on_step : (marks rest : List Bool) (p q : Deframer) (room : ℕ) (byte : Option ℕ) → (onward room p q byte (λ r q. read_of r q marks)).taken ≡ suc (length marks)
     → ((r : ℕ) (q : Deframer) → (read_of r q marks).taken ≡ length marks → read_of r q (marks ++ rest) ≡ afterwards r (read_of r q marks) (length marks) rest)
     → onward room p q byte (λ r q. read_of r q (marks ++ rest)) ≡ afterwards room (onward room p q byte (λ r q. read_of r q marks)) (suc (length marks)) rest
@@ -87,7 +84,7 @@ on_step marks rest p q zero (Some b) t ih = absurd (omega (arith, t))
 on_step marks rest p q (suc room) (Some b) t ih =
     ap (one_bit (b ∷ [])) (ih room q (omega (arith, t)))
     ∙ one-ahead (b ∷ []) (read_of room q marks).bytes (length marks) (read_of (room - length (read_of room q marks).bytes) (read_of room q marks).place rest)
-    ∙ ap (λ (k : ℕ). ahead (suc (length marks)) (b ∷ (read_of room q marks).bytes) (read_of k (read_of room q marks).place rest)) (one_less room (length (read_of room q marks).bytes))
+    ∙ ap (λ (k : ℕ). ahead (suc (length marks)) (b ∷ (read_of room q marks).bytes) (read_of k (read_of room q marks).place rest)) (omega arith)
 
 pub read-on : (room : ℕ) (p : Deframer) (marks rest : List Bool) → (read_of room p marks).taken ≡ length marks
     → read_of room p (marks ++ rest) ≡ afterwards room (read_of room p marks) (length marks) rest

@@ -60,10 +60,7 @@ quiet (Frame (suc (suc (suc (suc (suc (suc (suc (suc (suc (suc n)))))))))) acc) 
 -- ---- frames, from idle
 frame-read : (room b : ℕ) (rest : List Bool) → b < 256 → read_of (suc room) Idle (frame_of b ++ rest) ≡ ahead 10 (b ∷ []) (read_of room Idle rest)
 unfolding read_of frame_step frame_of
-frame-read room b rest h = rw (shifted-data b h) (ap (λ (n : ℕ). record { place = (read_of room Idle rest).place; taken = n; bytes = b ∷ (read_of room Idle rest).bytes }) (ten (read_of room Idle rest).taken))
-  where
-    ten : (n : ℕ) → suc (suc (suc (suc (suc (suc (suc (suc (suc (suc n))))))))) ≡ 10 + n
-    ten n = omega arith
+frame-read room b rest h = rw (shifted-data b h) (ap (λ (n : ℕ). record { place = (read_of room Idle rest).place; taken = n; bytes = b ∷ (read_of room Idle rest).bytes }) (omega arith))
 
 frame-stopped : (b : ℕ) (rest : List Bool) → (read_of zero Idle (frame_of b ++ rest)).bytes ≡ []
 unfolding read_of frame_step frame_of
@@ -89,10 +86,7 @@ frames-whole (b ∷ bytes) (more h all) (suc room) l =
 -- ---- frames after ten ones
 few-taken : (room : ℕ) (xs bytes : List ℕ) → length xs ≤ 1 → 1 ≤ room → xs ++ take (room - length xs) bytes ≡ take room (xs ++ bytes)
 few-taken room xs bytes few some =
-    sym (ap (λ (n : ℕ). take n (xs ++ bytes)) (whole room (length xs) few some) ∙ take-append-add xs bytes (room - length xs))
-  where
-    whole : (room n : ℕ) → n ≤ 1 → 1 ≤ room → room ≡ n + (room - n)
-    whole room n few some = omega arith
+    sym (ap (λ (n : ℕ). take n (xs ++ bytes)) (omega arith) ∙ take-append-add xs bytes (room - length xs))
 
 module _ (p : Deframer) (room : ℕ) (some : 1 ≤ room) where
   at_rest : Quiet p room

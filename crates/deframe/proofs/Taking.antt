@@ -1,18 +1,17 @@
 -- The reader's loop: after i bits the whole reading is what is in the buffer and then the reading of the rest (`Taking`). Assumes nothing.
 use Prim.Native.Nat.{ℕ, zero, suc, ◌+◌, ◌-◌, ◌≤◌, ◌<◌}
-use native.Mathlib.Nat.{sub-zero}
 use native.Mathlib.Numerals.{add-one}
 use native.Mathlib.Omega.{arith}
 use mathlib.Core.Bool.{Bool}
 use mathlib.Core.List.{List, [], ◌∷◌, ◌++◌, append-nil, append_assoc}
-use mathlib.Core.Path.{◌≡◌, refl, sym, ap, ◌∙◌}
+use mathlib.Core.Path.{◌≡◌, sym, ap, ◌∙◌}
 use lib.ListN.{length, take, drop, set, get_or, length-set, take-append-drop, drop_of_length-le}
 use lib.Seq.{drop-cons, take-suc-set, drop-set-lt, drop-drop, set_out, length-take-le}
 use Rattle.deframe.specs.declared.Deframer.{Deframer}
 use Rattle.deframe.specs.declared.Reading.{Reading}
 use Rattle.std.specs.Prelude.{Option, None, Some}
 use Rattle.deframe.specs.Read.{Read, is_mark, marks_of, step_of, one_bit, onward, stopped, read_of, answer_of, wrote_of}
-use Rattle.deframe.proofs.Parts.{told, none_ahead, ahead}
+use Rattle.deframe.proofs.Parts.{told, ahead}
 
 pub record Taking (p₀ : Deframer) (bits out₀ out : List ℕ) (place : Deframer) (given i : ℕ) : Type 0 where
   pub within : i ≤ length bits
@@ -25,16 +24,6 @@ slide : (xs ys : List ℕ) (i : ℕ) (r : Read) → ahead i xs (one_bit ys r) �
 slide xs ys i r =
     ap (told r.place (xs ++ (ys ++ r.bytes))) (omega arith)
     ∙ ap (λ (l : List ℕ). told r.place l (i + 1 + r.taken)) (sym (append_assoc xs ys r.bytes))
-
-pub taking-start : (p₀ : Deframer) (bits out : List ℕ) → Taking p₀ bits out out p₀ 0 0
-taking-start p₀ bits out =
-    record {
-      within = omega arith;
-      room = omega arith;
-      long = refl;
-      whole = none_ahead (read_of (length out) p₀ (marks_of bits)) ∙ ap (λ (n : ℕ). ahead 0 [] (read_of n p₀ (marks_of bits))) (sym (sub-zero (length out)));
-      later = refl;
-    }
 
 module _ (p₀ : Deframer) (bits out₀ out : List ℕ) (place : Deframer) (given i : ℕ) (T : Taking p₀ bits out₀ out place given i) where
   abbrev whole : Read

@@ -4,7 +4,7 @@ use mathlib.Core.Path.{◌≡◌, refl, sym, ap, ◌∙◌, subst}
 use mathlib.Core.Logic.{◌⊎◌, inl, inr}
 use mathlib.Core.Bool.{Bool, true, false, not, cond}
 use Prim.Native.Nat.{ℕ, zero, suc, ◌+◌, ◌-◌, ◌*◌, ◌/◌, ◌%◌, ◌^◌, ◌≤◌, ◌<◌, compare, Ordering}
-use native.Mathlib.Nat.{le_trans, le_of_eq, le_of_suc-le-suc, not-le_of_lt, eq-or-lt_of_le, mod-lt, lt_of_lt_of_le, lt_of_le_of_lt, zero-lt-suc, mul-pos, mul_comm, mul_assoc, mul_left_comm, mul_right_comm, mul-one, zero-add, mul-le-mul, mul-le-mul_right, mul-lt-mul_of_pos_right, le-div_iff_mul-le, div-lt_iff_lt-mul, div-eq_of_lt, mod-eq_of_lt, div-add-mod'}
+use native.Mathlib.Nat.{sub-eq-zero_of_le, le_trans, le_of_eq, le_of_suc-le-suc, not-le_of_lt, eq-or-lt_of_le, mod-lt, lt_of_lt_of_le, lt_of_le_of_lt, zero-lt-suc, mul-pos, mul_comm, mul_assoc, mul_left_comm, mul_right_comm, mul-one, zero-add, mul-le-mul, mul-le-mul_right, mul-lt-mul_of_pos_right, le-div_iff_mul-le, div-lt_iff_lt-mul, div-eq_of_lt, mod-eq_of_lt, div-add-mod'}
 use native.Mathlib.Omega.{arith}
 use lib.Dec.{T, leb, ltb, leb→le, nleb→lt, lit<, lit≤}
 use lib.Arith.{le→nltb}
@@ -22,7 +22,7 @@ use Rattle.math.specs.Narrow.{narrowed}
 use Rattle.math.specs.Steps.{narrow_bits}
 use Rattle.math.proofs.Tests.{Compared, compared, closest-down, closest-tie, closest-up}
 use Rattle.math.proofs.Values.{below-same}
-use Rattle.math.proofs.Pattern.{pattern, none_left, size_is, magnitude, significand-lo, significand-hi, fields_value, ones-are, by-fields, is-nan}
+use Rattle.math.proofs.Pattern.{pattern, size_is, magnitude, significand-lo, significand-hi, fields_value, ones-are, by-fields, is-nan}
 
 -- ---- `round binary32` of w / c, where the digits that it drops are known
 kept_at : (s : Bool) (w c k q : ℕ) → size (w * 2 ^ 149 / c) - 24 ≡ k → closest (w * 2 ^ 149) (c * 2 ^ k) ≡ q → round binary32 s w c ≡ units binary32 s q k
@@ -32,9 +32,6 @@ kept_at s w c k q e h =
     ∙ ap (λ (z : ℕ). units binary32 s z k) h
 
 -- normal results: the value is (2 ^ 52 + t) * 2 ^ j / 2 ^ 178
-drops : (z j : ℕ) → z ≡ suc (23 + j) → z - 24 ≡ j
-drops z j h = omega arith
-
 up-lo : (x y : ℕ) → 2 ^ 52 * x ≤ y → 2 ^ 23 * x * 2 ^ 178 ≤ y * 2 ^ 149
 up-lo x y h = le_trans (le_of_eq (mul_right_comm (2 ^ 23) x (2 ^ 178) ∙ sym (mul_right_comm (2 ^ 52) x (2 ^ 149)))) (mul-le-mul_right (2 ^ 149) h)
 
@@ -48,13 +45,10 @@ normal : (s : Bool) (g j : ℕ) → 2 ^ 52 ≤ g → g < 2 ^ 53 → round binary
 normal s g j lo hi =
     let n = g * 2 ^ j * 2 ^ 149 in
     let a : 2 ^ (23 + j) * 2 ^ 178 ≤ n = subst (λ (z : ℕ). z * 2 ^ 178 ≤ n) (sym (pow-add 2 23 j)) (up-lo (2 ^ j) (g * 2 ^ j) (mul-le-mul_right (2 ^ j) lo)) in
-    let b : n < 2 ^ suc (23 + j) * 2 ^ 178 = subst (λ (z : ℕ). n < z * 2 ^ 178) (sym (pow-add 2 24 j) ∙ ap (λ (z : ℕ). 2 ^ z) (step j)) (up-hi (2 ^ j) (g * 2 ^ j) (mul-lt-mul_of_pos_right hi (pow_pos j))) in
+    let b : n < 2 ^ suc (23 + j) * 2 ^ 178 = subst (λ (z : ℕ). n < z * 2 ^ 178) (sym (pow-add 2 24 j) ∙ ap (λ (z : ℕ). 2 ^ z) (omega arith)) (up-hi (2 ^ j) (g * 2 ^ j) (mul-lt-mul_of_pos_right hi (pow_pos j))) in
     kept_at s (g * 2 ^ j) (2 ^ 178) j (closest g (2 ^ 29))
-    (drops (size (n / 2 ^ 178)) j (size_is (n / 2 ^ 178) (23 + j) ((le-div_iff_mul-le (pow_pos 178)).1 a) ((div-lt_iff_lt-mul (pow_pos 178)).1 b)))
+    (omega (arith, size_is (n / 2 ^ 178) (23 + j) ((le-div_iff_mul-le (pow_pos 178)).1 a) ((div-lt_iff_lt-mul (pow_pos 178)).1 b)))
     (closest_same n (2 ^ 178 * 2 ^ j) g (2 ^ 29) (mul-pos (pow_pos 178) (pow_pos j)) (pow_pos 29) (up_same (g * 2 ^ j) ∙ mul_assoc g (2 ^ j) (2 ^ 178) ∙ ap (λ (z : ℕ). g * z) (mul_comm (2 ^ j) (2 ^ 178))))
-  where
-    step : (j : ℕ) → 24 + j ≡ suc (23 + j)
-    step j = omega arith
 
 -- subnormal results: the value is g / 2 ^ (149 + i), with i at least 30
 below_one : (s : Bool) (g i : ℕ) → g < 2 ^ (24 + i) → round binary32 s g (2 ^ (149 + i)) ≡ units binary32 s (closest g (2 ^ i)) 0
@@ -62,14 +56,11 @@ below_one s g i h =
     let n = g * 2 ^ 149 in
     let c = 2 ^ (149 + i) in
     let b : n < 2 ^ 24 * c =
-    subst (λ (z : ℕ). n < z) (sym (pow-add 2 (24 + i) 149) ∙ ap (λ (z : ℕ). 2 ^ z) (turn i) ∙ pow-add 2 24 (149 + i)) (mul-lt-mul_of_pos_right h (pow_pos 149)) in
+    subst (λ (z : ℕ). n < z) (sym (pow-add 2 (24 + i) 149) ∙ ap (λ (z : ℕ). 2 ^ z) (omega arith) ∙ pow-add 2 24 (149 + i)) (mul-lt-mul_of_pos_right h (pow_pos 149)) in
     kept_at s g c 0 (closest g (2 ^ i))
-    (none_left (size (n / c)) 24 (size-le (n / c) 24 ((div-lt_iff_lt-mul (pow_pos (149 + i))).1 b)))
+    (sub-eq-zero_of_le (size-le (n / c) 24 ((div-lt_iff_lt-mul (pow_pos (149 + i))).1 b)))
     (closest_same n (c * 2 ^ 0) g (2 ^ i) (mul-pos (pow_pos (149 + i)) (pow_pos 0)) (pow_pos i)
     (mul_assoc g (2 ^ 149) (2 ^ i) ∙ ap (λ (z : ℕ). g * z) (sym (pow-add 2 149 i) ∙ sym (mul-one c))))
-  where
-    turn : (i : ℕ) → 24 + i + 149 ≡ 24 + (149 + i)
-    turn i = omega arith
 
 -- nothing is left of a value below a half unit
 under-half : (g c : ℕ) → g * 2 < c → closest g c ≡ 0
@@ -124,15 +115,6 @@ narrow_bits-is s (suc x) t E H = go (leb 897 (suc x)) (leb→le 897 (suc x)) (nl
     g : ℕ
     g = 2 ^ 52 + t
 
-    split : (x : ℕ) → 897 ≤ suc x → 896 + (suc x - 897) ≡ x
-    split x h = omega arith
-
-    most : (x : ℕ) → suc x < 1024 → suc x - 897 ≤ 126
-    most x h = omega arith
-
-    rest : (x : ℕ) → suc x < 897 → x + (926 - suc x) ≡ 925
-    rest x h = omega arith
-
     wide : (x : ℕ) → suc x < 897 → 53 ≤ 24 + (926 - suc x)
     wide x h = omega arith
 
@@ -143,13 +125,13 @@ narrow_bits-is s (suc x) t E H = go (leb 897 (suc x)) (leb→le 897 (suc x)) (nl
         → of_bits binary32 (cond s (2 ^ 31) 0 + cond a ((suc x - 897) * 2 ^ 23 + closest (2 ^ 52 + t) (2 ^ 29)) (cond b (closest (2 ^ 52 + t) (2 ^ (926 - suc x))) 0)) ≡ round binary32 s ((2 ^ 52 + t) * 2 ^ x) (2 ^ 1074)
     go true A A' b B B' =
         back s (g * 2 ^ x) (closest g (2 ^ 29)) (suc x - 897)
-        (subst (λ (z : ℕ). round binary32 s (g * 2 ^ z) (2 ^ 1074) ≡ units binary32 s (closest g (2 ^ 29)) (suc x - 897)) (split x (A tt)) (to-normal s g (suc x - 897) (significand-lo t) (significand-hi t H)))
-        (digits-hi g 29 (significand-hi t H)) (inr (digits-lo g (significand-lo t))) (most x E)
+        (subst (λ (z : ℕ). round binary32 s (g * 2 ^ z) (2 ^ 1074) ≡ units binary32 s (closest g (2 ^ 29)) (suc x - 897)) (omega (arith, A tt)) (to-normal s g (suc x - 897) (significand-lo t) (significand-hi t H)))
+        (digits-hi g 29 (significand-hi t H)) (inr (digits-lo g (significand-lo t))) (omega arith)
     go false A A' true B B' =
         let i = 926 - suc x in
         let small : g < 2 ^ (24 + i) = lt_of_lt_of_le (significand-hi t H) (pow_mono (wide x (A' tt))) in
         ap (λ (z : ℕ). of_bits binary32 (cond s (2 ^ 31) 0 + z)) (sym (zero-add (closest g (2 ^ i))))
-        ∙ back s (g * 2 ^ x) (closest g (2 ^ i)) 0 (to_below s g x i (rest x (A' tt)) small) (digits-hi g i small) (inl refl) (lit≤ tt)
+        ∙ back s (g * 2 ^ x) (closest g (2 ^ i)) 0 (to_below s g x i (omega (arith, A' tt)) small) (digits-hi g i small) (inl refl) (lit≤ tt)
     go false A A' false B B' =
         back s (g * 2 ^ x) 0 0
         (to_none s (g * 2 ^ x) (lt_of_lt_of_le (shl_lt 53 x (significand-hi t H)) (pow_mono (tiny x (B' tt)))))
@@ -160,9 +142,6 @@ pub narrow_bits-le : (e t : ℕ) → e < 1024 → t < 2 ^ 52 → narrow_bits e t
 unfolding narrow_bits
 narrow_bits-le e t E H = go (leb 897 e) (nleb→lt 897 e) (leb 873 e)
   where
-    sum : (e q : ℕ) → e < 1024 → q ≤ 2 ^ 24 → (e - 897) * 2 ^ 23 + q ≤ 2 ^ 30
-    sum e q h k = omega arith
-
     more : (q : ℕ) → q ≤ 2 ^ 24 → q ≤ 2 ^ 30
     more q k = omega arith
 
@@ -170,7 +149,7 @@ narrow_bits-le e t E H = go (leb 897 e) (nleb→lt 897 e) (leb 873 e)
     wide e h = omega arith
 
     go : (a : Bool) → (T (not a) → e < 897) → (b : Bool) → cond a ((e - 897) * 2 ^ 23 + closest (2 ^ 52 + t) (2 ^ 29)) (cond b (closest (2 ^ 52 + t) (2 ^ (926 - e))) 0) ≤ 2 ^ 30
-    go true A b = sum e (closest (2 ^ 52 + t) (2 ^ 29)) E (digits-hi (2 ^ 52 + t) 29 (significand-hi t H))
+    go true A b = omega (arith, digits-hi (2 ^ 52 + t) 29 (significand-hi t H))
     go false A true = more (closest (2 ^ 52 + t) (2 ^ (926 - e))) (digits-hi (2 ^ 52 + t) (926 - e) (lt_of_lt_of_le (significand-hi t H) (pow_mono (wide e (A tt)))))
     go false A false = lit≤ tt
 
@@ -256,19 +235,10 @@ zero-narrow = refl
 rounds : (g : ℕ) → (g + (2 ^ 28 - 1) + g / 2 ^ 29 % 2) / 2 ^ 29 ≡ closest g (2 ^ 29)
 rounds g = go (compare (g % 2 ^ 29 * 2) (2 ^ 29)) (compared (g % 2 ^ 29 * 2) (2 ^ 29))
   where
-    down : (g : ℕ) → g % 2 ^ 29 * 2 < 2 ^ 29 → (g + (2 ^ 28 - 1) + g / 2 ^ 29 % 2) / 2 ^ 29 ≡ g / 2 ^ 29
-    down g h = omega arith
-
-    tie : (g : ℕ) → g % 2 ^ 29 * 2 ≡ 2 ^ 29 → (g + (2 ^ 28 - 1) + g / 2 ^ 29 % 2) / 2 ^ 29 ≡ g / 2 ^ 29 + g / 2 ^ 29 % 2
-    tie g h = omega arith
-
-    up : (g : ℕ) → 2 ^ 29 < g % 2 ^ 29 * 2 → (g + (2 ^ 28 - 1) + g / 2 ^ 29 % 2) / 2 ^ 29 ≡ g / 2 ^ 29 + 1
-    up g h = omega arith
-
     go : (o : Ordering) → Compared o (g % 2 ^ 29 * 2) (2 ^ 29) → (g + (2 ^ 28 - 1) + g / 2 ^ 29 % 2) / 2 ^ 29 ≡ closest g (2 ^ 29)
-    go Ordering.lt h = down g h ∙ closest-down g (2 ^ 29) h
-    go Ordering.eq h = tie g h ∙ closest-tie g (2 ^ 29) h
-    go Ordering.gt h = up g h ∙ closest-up g (2 ^ 29) h
+    go Ordering.lt h = omega arith ∙ closest-down g (2 ^ 29) h
+    go Ordering.eq h = omega arith ∙ closest-tie g (2 ^ 29) h
+    go Ordering.gt h = omega arith ∙ closest-up g (2 ^ 29) h
 
 -- the pattern of a result in the normal range, from the pattern m of the value without its sign
 pub narrow_bits-normal : (m : ℕ) → 897 * 2 ^ 52 ≤ m → (m - 0x37ff_ffff_f000_0001 + m / 2 ^ 29 % 2) / 2 ^ 29 ≡ narrow_bits (m / 2 ^ 52) (m % 2 ^ 52)
@@ -278,23 +248,17 @@ narrow_bits-normal m h = rw (le-leb _ _ (field m h), ← rounds (2 ^ 52 + m % 2 
     field : (m : ℕ) → 897 * 2 ^ 52 ≤ m → 897 ≤ m / 2 ^ 52
     field m h = omega arith
 
-    odd-at : (q t : ℕ) → (q * 2 ^ 52 + t) / 2 ^ 29 % 2 ≡ (2 ^ 52 + t) / 2 ^ 29 % 2
-    odd-at q t = omega arith
-
     odd : (m : ℕ) → m / 2 ^ 29 % 2 ≡ (2 ^ 52 + m % 2 ^ 52) / 2 ^ 29 % 2
-    odd m = subst (λ (z : ℕ). z / 2 ^ 29 % 2 ≡ (2 ^ 52 + m % 2 ^ 52) / 2 ^ 29 % 2) (div-add-mod' m (2 ^ 52)) (odd-at (m / 2 ^ 52) (m % 2 ^ 52))
+    odd m = subst (λ (z : ℕ). z / 2 ^ 29 % 2 ≡ (2 ^ 52 + m % 2 ^ 52) / 2 ^ 29 % 2) (div-add-mod' m (2 ^ 52)) (omega arith)
 
     parts : (m o : ℕ) → 897 * 2 ^ 52 ≤ m → m - 0x37ff_ffff_f000_0001 + o ≡ (m / 2 ^ 52 - 897) * 2 ^ 23 * 2 ^ 29 + (2 ^ 52 + m % 2 ^ 52 + (2 ^ 28 - 1) + o)
     parts m o h = omega arith
-
-    split : (k x : ℕ) → (k * 2 ^ 29 + x) / 2 ^ 29 ≡ k + x / 2 ^ 29
-    split k x = omega arith
 
     same : (m : ℕ) → 897 * 2 ^ 52 ≤ m → (m - 0x37ff_ffff_f000_0001 + m / 2 ^ 29 % 2) / 2 ^ 29 ≡ (m / 2 ^ 52 - 897) * 2 ^ 23 + (2 ^ 52 + m % 2 ^ 52 + (2 ^ 28 - 1) + (2 ^ 52 + m % 2 ^ 52) / 2 ^ 29 % 2) / 2 ^ 29
     same m h =
         ap (λ (z : ℕ). (m - 0x37ff_ffff_f000_0001 + z) / 2 ^ 29) (odd m)
         ∙ ap (λ (z : ℕ). z / 2 ^ 29) (parts m ((2 ^ 52 + m % 2 ^ 52) / 2 ^ 29 % 2) h)
-        ∙ split ((m / 2 ^ 52 - 897) * 2 ^ 23) (2 ^ 52 + m % 2 ^ 52 + (2 ^ 28 - 1) + (2 ^ 52 + m % 2 ^ 52) / 2 ^ 29 % 2)
+        ∙ omega arith
 
 -- below 2, by the pattern m without its sign
 pub field-small : (m : ℕ) → m < 2 ^ 62 → m / 2 ^ 52 < 1024

@@ -1,14 +1,14 @@
 -- Bit patterns. The pattern of q * 2 ^ k units of a format is k * hid + q, with the sign's bit; a binary64 value is its sign, its exponent's field and its digits. Assumes nothing.
 use mathlib.Core.Path.{◌≡◌, refl, sym, ap, ◌∙◌, subst}
 use mathlib.Core.Logic.{◌⊎◌, inl, inr}
-use mathlib.Core.Bool.{Bool, true, false, not, cond, false≢true}
+use mathlib.Core.Bool.{Bool, true, false, not, cond}
 use Prim.Native.Nat.{ℕ, zero, suc, ◌+◌, ◌-◌, ◌*◌, ◌/◌, ◌%◌, ◌^◌, ◌≤◌, ◌<◌}
-use native.Mathlib.Nat.{le_trans, le_of_eq, le_antisymm, le_of_suc-le-suc, lt_of_lt_of_le, lt_of_not-le, not-le_of_lt, eq-or-lt_of_le, mul-div_cancel, mul_comm, mul_assoc, mul-one, one-mul, div-one, div-lt_iff_lt-mul, pow-suc, pow-succ', mul-le-mul_right, mod-lt, add_assoc, suc-mul}
+use native.Mathlib.Nat.{sub-eq-zero_of_le, ne_of_lt, le_trans, le_of_eq, le_antisymm, le_of_suc-le-suc, lt_of_lt_of_le, lt_of_not-le, not-le_of_lt, eq-or-lt_of_le, mul-div_cancel, mul_comm, mul_assoc, mul-one, one-mul, div-one, div-lt_iff_lt-mul, pow-suc, pow-succ', mul-le-mul_right, mod-lt, add_assoc, suc-mul}
 use native.Mathlib.Omega.{arith}
 use lib.Pow.{pow-add, pow_pos, pow_mono, shl_lt}
 use lib.Dec.{T, leb, eqb, eqb→eq, lit≤}
 use lib.IntN.{ℤ, pos, negsuc}
-use lib.Ieee.{Float, nan, inf, fin, Format, binary32, binary64, prec, low, up, down, size, hid, top, odd, to_bits, of_bits, of_fields, fits, is_nan, eq, ne}
+use lib.Ieee.{Float, nan, inf, fin, Format, binary32, binary64, prec, low, up, down, size, hid, top, odd, to_bits, of_bits, of_fields, fits, eq, ne}
 use lib.Ieee.Bits.{of_bits-to_bits}
 use lib.Ieee.Compare.{differs_from_itself}
 use lib.Ieee.Digits.{size-lt, size-le}
@@ -26,39 +26,24 @@ unsigned f n = (size n - prec f) * hid f + n / 2 ^ (size n - prec f)
 unsigned_by : (f : Format) (n k q : ℕ) → size n - prec f ≡ k → n / 2 ^ k ≡ q → unsigned f n ≡ k * hid f + q
 unsigned_by f n k q e d = ap (λ (z : ℕ). z * hid f + n / 2 ^ z) e ∙ ap (λ (z : ℕ). k * hid f + z) d
 
-pub none_left : (z p : ℕ) → z ≤ p → z - p ≡ 0
-none_left z p h = omega arith
-
-over : (p k z : ℕ) → 0 < p → z ≡ suc (p - 1 + k) → z - p ≡ k
-over p k z P e = omega arith
-
-over1 : (p k z : ℕ) → 0 < p → z ≡ suc (p + k) → z - p ≡ suc k
-over1 p k z P e = omega arith
-
 prec-pos : (f : Format) → 0 < prec f
 prec-pos binary32 = lit≤ tt
 prec-pos binary64 = lit≤ tt
 
-shift : (p k : ℕ) → 0 < p → suc (p - 1 + k) ≡ p + k
-shift p k P = omega arith
-
 small : (f : Format) (q : ℕ) → q < 2 ^ prec f → unsigned f (q * 2 ^ 0) ≡ 0 * hid f + q
 small f q h =
-    ap (unsigned f) (mul-one q) ∙ unsigned_by f q 0 q (none_left (size q) (prec f) (size-le q (prec f) h)) (div-one q)
+    ap (unsigned f) (mul-one q) ∙ unsigned_by f q 0 q (sub-eq-zero_of_le (size-le q (prec f) h)) (div-one q)
 
 normal : (f : Format) (q k : ℕ) → hid f ≤ q → q < 2 ^ prec f → unsigned f (q * 2 ^ k) ≡ k * hid f + q
 normal f q k lo hi =
     let p = prec f in
     let P = prec-pos f in
     let a : 2 ^ (p - 1 + k) ≤ q * 2 ^ k = le_trans (le_of_eq (pow-add 2 (p - 1) k)) (mul-le-mul_right (2 ^ k) lo) in
-    let b : q * 2 ^ k < 2 ^ suc (p - 1 + k) = subst (λ (z : ℕ). q * 2 ^ k < 2 ^ z) (sym (shift p k P)) (shl_lt p k hi) in
-    unsigned_by f (q * 2 ^ k) k q (over p k (size (q * 2 ^ k)) P (size_is (q * 2 ^ k) (p - 1 + k) a b)) (mul-div_cancel q (pow_pos k))
+    let b : q * 2 ^ k < 2 ^ suc (p - 1 + k) = subst (λ (z : ℕ). q * 2 ^ k < 2 ^ z) (sym (omega arith)) (shl_lt p k hi) in
+    unsigned_by f (q * 2 ^ k) k q (omega (arith, size_is (q * 2 ^ k) (p - 1 + k) a b)) (mul-div_cancel q (pow_pos k))
 
 dbl : (h : ℕ) (k : ℕ) → suc k * h + h ≡ k * h + h * 2
-dbl h k = ap (λ (z : ℕ). z + h) (suc-mul k h) ∙ flat (k * h) h
-  where
-    flat : (a b : ℕ) → a + b + b ≡ a + b * 2
-    flat a b = omega arith
+dbl h k = ap (λ (z : ℕ). z + h) (suc-mul k h) ∙ omega arith
 
 two-hid : (f : Format) → hid f * 2 ≡ 2 ^ prec f
 two-hid binary32 = refl
@@ -74,13 +59,10 @@ full f k =
     let P = prec-pos f in
     let e : size n ≡ suc (p + k) = size_is n (p + k) (le_of_eq refl) (pow-lt' (p + k)) in
     let d : n / 2 ^ suc k ≡ hid f = ap (λ (z : ℕ). z / 2 ^ suc k) (two-hid-pow f k) ∙ mul-div_cancel (hid f) (pow_pos (suc k)) in
-    ap (unsigned f) (sym (pow-add 2 p k)) ∙ unsigned_by f n (suc k) (hid f) (over1 p k (size n) P e) d ∙ dbl (hid f) k ∙ ap (λ (z : ℕ). k * hid f + z) (two-hid f)
+    ap (unsigned f) (sym (pow-add 2 p k)) ∙ unsigned_by f n (suc k) (hid f) (omega arith) d ∙ dbl (hid f) k ∙ ap (λ (z : ℕ). k * hid f + z) (two-hid f)
   where
     pow-lt' : (j : ℕ) → 2 ^ j < 2 ^ suc j
-    pow-lt' j = subst (λ (z : ℕ). 2 ^ j < z) (sym (pow-suc 2 j)) (more (2 ^ j) (pow_pos j))
-      where
-        more : (a : ℕ) → 0 < a → a < a * 2
-        more a h = omega arith
+    pow-lt' j = subst (λ (z : ℕ). 2 ^ j < z) (sym (pow-suc 2 j)) (omega (arith, pow_pos j))
 
 units-unsigned : (f : Format) (q k : ℕ) → q ≤ 2 ^ prec f → (k ≡ 0) ⊎ (hid f ≤ q) → unsigned f (q * 2 ^ k) ≡ k * hid f + q
 units-unsigned f q k h c = go (eq-or-lt_of_le h) c
@@ -124,11 +106,8 @@ unfolding of_fields
 fields_value s zero t h = subst (λ (z : ℕ). HasValue (odd 53 s t 0 1074) s z (2 ^ 1074)) (mul-one t) (odd_sign 53 s t 0 1074)
 fields_value s (suc x) t h = go (eqb (suc x) 2047) (eqb→eq (suc x) 2047)
   where
-    less : (a b : ℕ) → a < b → a ≡ b → ⊥
-    less a b h e = omega arith
-
     go : (b : Bool) → (T b → suc x ≡ 2047) → HasValue (cond b (cond (eqb t 0) (inf s) nan) (odd 53 s (2 ^ 52 + t) x 1074)) s ((2 ^ 52 + t) * 2 ^ x) (2 ^ 1074)
-    go true k = absurd (less (suc x) 2047 h (k tt))
+    go true k = absurd (ne_of_lt h (k tt))
     go false k = odd_sign 53 s (2 ^ 52 + t) x 1074
 
 opened : (b : ℕ) → of_bits binary64 b ≡ of_fields binary64 (leb (2 ^ 63) b) (b % 2 ^ 63 / 2 ^ 52) (b % 2 ^ 52)
@@ -183,28 +162,19 @@ fields-of x h f = record {
   value = bits-value x h f;
 }
 
+two_up : (p : ℕ) → 2 * p ≡ 1 → ⊥
+two_up p e = omega arith
+
 unit-exponent : (e : ℤ) → up e * down e ≡ 1 → e ≡ pos 0
 unit-exponent (pos zero) h = refl
-unit-exponent (pos (suc k)) h = absurd (no (2 ^ k) (pow_pos k) (sym (pow-succ' 2 k) ∙ sym (mul-one (2 ^ suc k)) ∙ h))
-  where
-    no : (p : ℕ) → 0 < p → 2 * p ≡ 1 → ⊥
-    no p h e = omega arith
-unit-exponent (negsuc k) h = absurd (no (2 ^ k) (pow_pos k) (sym (pow-succ' 2 k) ∙ sym (one-mul (2 ^ suc k)) ∙ h))
-  where
-    no : (p : ℕ) → 0 < p → 2 * p ≡ 1 → ⊥
-    no p h e = omega arith
+unit-exponent (pos (suc k)) h = absurd (two_up (2 ^ k) (sym (pow-succ' 2 k) ∙ sym (mul-one (2 ^ suc k)) ∙ h))
+unit-exponent (negsuc k) h = absurd (two_up (2 ^ k) (sym (pow-succ' 2 k) ∙ sym (one-mul (2 ^ suc k)) ∙ h))
 
 pub zero_exponent : (s : Bool) (e : ℤ) → T (fits binary64 (fin s 0 e)) → e ≡ pos 0
 unfolding fits
 zero_exponent s e h = unit-exponent e (eqb→eq (up e * down e) 1 h)
 
 -- ---- `x == x`
-pub not-nan : (x : Float) → eq x x ≡ true → T (not (is_nan x))
-unfolding eq is_nan
-not-nan nan e = absurd (false≢true e)
-not-nan (inf s) e = tt
-not-nan (fin s m d) e = tt
-
 pub is-nan : (x : Float) → eq x x ≡ false → x ≡ nan
 unfolding ne
 is-nan x e = differs_from_itself x (subst (λ (b : Bool). T (not b)) (sym e) tt)

@@ -35,13 +35,10 @@ pub grid-fits : (f : Format) (a c z : ℕ) → 0 < c → a * 2 ^ low f < 2 ^ z *
 grid-fits f a c z C h room =
     let n = a * 2 ^ low f in
     let k = size (n / c) - prec f in
-    let kle : k ≤ z - prec f = fewer (size (n / c)) z (prec f) (size-le (n / c) z ((div-lt_iff_lt-mul C).1 h)) in
+    let kle : k ≤ z - prec f = omega (arith, size-le (n / c) z ((div-lt_iff_lt-mul C).1 h)) in
     let qle : closest n (c * 2 ^ k) ≤ 2 ^ prec f =
     le_trans (nearest-le (n / (c * 2 ^ k)) (compare (n % (c * 2 ^ k) * 2) (c * 2 ^ k))) (subst (λ (x : ℕ). x < 2 ^ prec f) (div-div-eq-div-mul n c (2 ^ k)) (kept-lt (prec f) (n / c))) in
     lt_of_le_of_lt (mul-le-mul qle (pow_mono kle)) room
-  where
-    fewer : (x y p : ℕ) → x ≤ y → x - p ≤ y - p
-    fewer x y p h = omega arith
 
 -- ---- the value, with a sign, and a bound that the format holds
 pub round-value : (f : Format) (s : Bool) (a c : ℕ) → grid f a c < overflow f → HasValue (round f s a c) s (grid f a c) (2 ^ low f)

@@ -120,17 +120,11 @@ add-size k l (fin s m e) (fin t n d) b h g = pick (beq s t) (ltb A A')
     all : (m * up e * down d + n * up d * down e) * 2 ^ 30 ≤ (k + l) * (down e * down d)
     all = both (m * up e) (n * up d) (down e) (down d) h g
 
-    first : (x y : ℕ) → x - y ≤ x + y
-    first x y = omega arith
-
-    second : (x y : ℕ) → y - x ≤ x + y
-    second x y = omega arith
-
     pick : (p r : Bool) → Size (k + l) (cond p (round binary64 s (m * up e * down d + n * up d * down e) (down e * down d))
         (cond r (round binary64 t (n * up d * down e - m * up e * down d) (down e * down d)) (round binary64 (s && ltb (n * up d * down e) (m * up e * down d)) (m * up e * down d - n * up d * down e) (down e * down d))))
     pick true r = round-size s (m * up e * down d + n * up d * down e) (down e * down d) (k + l) cp b all
-    pick false true = round-size t (n * up d * down e - m * up e * down d) (down e * down d) (k + l) cp b (le_trans (mul-le-mul_right (2 ^ 30) (second (m * up e * down d) (n * up d * down e))) all)
-    pick false false = round-size (s && ltb (n * up d * down e) (m * up e * down d)) (m * up e * down d - n * up d * down e) (down e * down d) (k + l) cp b (le_trans (mul-le-mul_right (2 ^ 30) (first (m * up e * down d) (n * up d * down e))) all)
+    pick false true = round-size t (n * up d * down e - m * up e * down d) (down e * down d) (k + l) cp b (le_trans (mul-le-mul_right (2 ^ 30) (omega arith)) all)
+    pick false false = round-size (s && ltb (n * up d * down e) (m * up e * down d)) (m * up e * down d - n * up d * down e) (down e * down d) (k + l) cp b (le_trans (mul-le-mul_right (2 ^ 30) (omega arith)) all)
 
 pub mul-size : (k l K : ℕ) (x y : Float) → K < 2 ^ 53 → k * l ≤ K * 2 ^ 30 → Size k x → Size l y → Size K (mul binary64 x y)
 unfolding mul
@@ -158,17 +152,11 @@ sub-size (fin false m e) (fin false n d) a b c k C v w K g h = pick (ltb (m * up
     cp : 0 < down e * down d
     cp = mul-pos (down_pos e) (down_pos d)
 
-    plain : (a b z : ℕ) → (a - b) * 2 ^ 30 ≤ z → a * 2 ^ 30 ≤ z + b * 2 ^ 30
-    plain a b z h = omega arith
-
-    apart : (x y z : ℕ) → x * 2 ^ 30 ≤ z + y * 2 ^ 30 → (x - y) * 2 ^ 30 ≤ z
-    apart x y z h = omega arith
-
     scaled : (x y p r a b : ℕ) → x * c ≡ a * p → y * c ≡ b * r → a * 2 ^ 30 ≤ k * c + b * 2 ^ 30 → x * r * 2 ^ 30 * c ≤ (k * (p * r) + y * p * 2 ^ 30) * c
     scaled x y p r a b v w h = omega (arith, mul-le-mul_right (p * r) h, ap (λ (z : ℕ). z * (r * 2 ^ 30)) v, ap (λ (z : ℕ). z * (p * 2 ^ 30)) w)
 
     part : (x y p r a b : ℕ) → x * c ≡ a * p → y * c ≡ b * r → (a - b) * 2 ^ 30 ≤ k * c → (x * r - y * p) * 2 ^ 30 ≤ k * (p * r)
-    part x y p r a b v w h = apart (x * r) (y * p) (k * (p * r)) (le_of_mul-le-mul_right (scaled x y p r a b v w (plain a b (k * c) h)) C)
+    part x y p r a b v w h = omega (arith, le_of_mul-le-mul_right (scaled x y p r a b v w (omega arith)) C)
 
     pick : (t : Bool) → Size k (cond t (round binary64 true (n * up d * down e - m * up e * down d) (down e * down d)) (round binary64 false (m * up e * down d - n * up d * down e) (down e * down d)))
     pick true = round-size true (n * up d * down e - m * up e * down d) (down e * down d) k cp K (subst (λ (z : ℕ). (n * up d * down e - m * up e * down d) * 2 ^ 30 ≤ k * z) (mul_comm (down d) (down e)) (part (n * up d) (m * up e) (down d) (down e) b a w.1 v.1 h))

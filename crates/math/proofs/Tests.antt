@@ -1,14 +1,12 @@
--- What a test or a comparison of numbers gives: `closest` by how twice the remainder compares, and `1 << k`. Assumes nothing.
+-- What a test or a comparison of numbers gives: `closest` by how twice the remainder compares. Assumes nothing.
 use mathlib.Core.Path.{◌≡◌, refl, sym, ap, ◌∙◌, subst}
 use mathlib.Core.Bool.{Bool, true, false, not, beq}
-use Prim.Native.Nat.{ℕ, ◌+◌, ◌*◌, ◌/◌, ◌%◌, ◌^◌, ◌≤◌, ◌<◌, compare, Ordering}
+use Prim.Native.Nat.{ℕ, ◌+◌, ◌*◌, ◌/◌, ◌%◌, ◌≤◌, ◌<◌, compare, Ordering}
 use native.Mathlib.Numerals.{add-one}
 use native.Mathlib.Omega.{arith}
-use lib.Dec.{lit<, T, is_le, compare_is_eq, eqb, leb→le, nleb→lt, eqb→eq, eqb_refl}
+use lib.Dec.{T, is_le, compare_is_eq, eqb, leb→le, nleb→lt, eqb→eq, eqb_refl}
 use lib.Arith.{lt_of_le-ne}
 use lib.Ieee.{nearest}
-use lib.Pow.{shl_exact}
-use native.Mathlib.Nat.{one-mul}
 use lib.Ieee.Nearest.{closest}
 
 -- two tests are one if each follows from the other
@@ -42,21 +40,15 @@ compared a b = go (compare a b) (leb→le a b) (nleb→lt a b) (eqb→eq a b) (�
 compare-is : (o : Ordering) (a b : ℕ) → Compared o a b → compare a b ≡ o
 compare-is o a b h = go (compare a b) o (compared a b) h
   where
-    lt-eq : (a b : ℕ) → a < b → a ≡ b → ⊥
-    lt-eq a b h k = omega arith
-
-    lt-gt : (a b : ℕ) → a < b → b < a → ⊥
-    lt-gt a b h k = omega arith
-
     go : (o p : Ordering) → Compared o a b → Compared p a b → o ≡ p
     go Ordering.lt Ordering.lt h k = refl
-    go Ordering.lt Ordering.eq h k = absurd (lt-eq a b h k)
-    go Ordering.lt Ordering.gt h k = absurd (lt-gt a b h k)
-    go Ordering.eq Ordering.lt h k = absurd (lt-eq a b k h)
+    go Ordering.lt Ordering.eq h k = absurd (omega arith)
+    go Ordering.lt Ordering.gt h k = absurd (omega arith)
+    go Ordering.eq Ordering.lt h k = absurd (omega arith)
     go Ordering.eq Ordering.eq h k = refl
-    go Ordering.eq Ordering.gt h k = absurd (lt-eq b a k (sym h))
-    go Ordering.gt Ordering.lt h k = absurd (lt-gt a b k h)
-    go Ordering.gt Ordering.eq h k = absurd (lt-eq b a h (sym k))
+    go Ordering.eq Ordering.gt h k = absurd (omega arith)
+    go Ordering.gt Ordering.lt h k = absurd (omega arith)
+    go Ordering.gt Ordering.eq h k = absurd (omega arith)
     go Ordering.gt Ordering.gt h k = refl
 
 -- `closest`, by how twice the remainder compares
@@ -68,10 +60,3 @@ closest-tie a b h = sym (ap (nearest (a / b)) (compare-is Ordering.eq (a % b * 2
 
 pub closest-up : (a b : ℕ) → b < a % b * 2 → a / b + 1 ≡ closest a b
 closest-up a b h = add-one (a / b) ∙ sym (ap (nearest (a / b)) (compare-is Ordering.gt (a % b * 2) b h))
-
--- `1 << k` at 64 bits
-pub one_shl : (k : ℕ) → k < 64 → (1 * 2 ^ k) % 2 ^ 64 ≡ 2 ^ k
-one_shl k h = shl_exact {a = 1} 1 k 64 (lit< tt) (room k h) ∙ one-mul (2 ^ k)
-  where
-    room : (k : ℕ) → k < 64 → 1 + k ≤ 64
-    room k h = omega arith

@@ -40,11 +40,8 @@ pub minus-zero : (m : ℕ) (e : ℤ) → T (le float.zero (fin true m e)) → m 
 unfolding le of_bits
 minus-zero m e h = no-up (sym (eqb→eq (0 * 1 * down e) (m * up e * 1) (and_l (eqb (0 * 1 * down e) (m * up e * 1)) (eqb (0 * 1 * down e) 0) h)) ∙ zero-mul (down e))
   where
-    no : (z : ℕ) → 0 < z → z ≡ 0 → ⊥
-    no z h e = omega arith
-
     no-up : m * up e * 1 ≡ 0 → m ≡ 0
-    no-up q = elim (eq-zero-or-pos m) [ inl z ↦ z | inr p ↦ absurd (no (m * up e * 1) (mul-pos (mul-pos p (up_pos e)) (zero-lt-suc 0)) q) ]
+    no-up q = elim (eq-zero-or-pos m) [ inl z ↦ z | inr p ↦ absurd (omega (arith, mul-pos (mul-pos p (up_pos e)) (zero-lt-suc 0))) ]
 
 neg-zero : negative-zero ≡ neg float.zero
 unfolding neg of_bits
@@ -111,14 +108,11 @@ module _ (period : Float) (P : ℕ) (value : HasValue period false P (2 ^ 1074))
         let w : AtMost (q * 2 ^ i) x = subst (AtMost (q * 2 ^ i)) (sym e) (units-at-most (a + b) q i small fine h) in
         go (leb P w.at) x w (le-at period x P w.at (2 ^ 1074) (pow_pos 1074) value w.value) (leb→le P w.at) (nleb→lt P w.at)
       where
-        less : (a b c : ℕ) → a ≤ b → a - c ≤ b - c
-        less a b c h = omega arith
-
         go : (b : Bool) (x : Float) (w : AtMost (q * 2 ^ i) x) → le period x ≡ b → (T b → P ≤ w.at) → (T (not b) → w.at < P) → T (within period (cond (le period x) (sub binary64 x period) x))
         go true x w f g l =
             let r : AtMost (t * 2 ^ j) (sub binary64 x period) =
             subst (AtMost (t * 2 ^ j)) (sym (sub_at binary64 x period w.at P (2 ^ 1074) (pow_pos 1074) w.value value (g tt)))
-            (units-at-most (w.at - P) t j small' fine' (le_trans (less w.at (q * 2 ^ i) P w.most) left)) in
+            (units-at-most (w.at - P) t j small' fine' (le_trans (omega (arith, w.most)) left)) in
             rw f (value-within (sub binary64 x period) r.at r.value (lt_of_le_of_lt r.most under))
         go false x w f g l = rw f (value-within x w.at w.value (l tt))
 

@@ -33,15 +33,12 @@ step-in-range freq k r f K lo hi =
     subst (AtMost (40000 * 2 ^ 1074)) (sym (mul-by binary64 tau freq 0x19_21fb_5444_2d18 (2 ^ 50) k 1 (pow_pos 50) (pow_pos 0) tau-short f))
     (at_most (0x19_21fb_5444_2d18 * k) (2 ^ 50) 40000 1074 (pow_pos 50) (lit< tt) (lit< tt) (le_trans (mul-le-mul_right (2 ^ 1074) (mul-le-mul_left 0x19_21fb_5444_2d18 K)) (lit≤ tt))) in
     let c = r * 2 ^ 1074 in
-    let C : 0 < c = mul-pos (pos_of r lo) (pow_pos 1074) in
+    let C : 0 < c = mul-pos (omega arith) (pow_pos 1074) in
     let rv : HasValue (of_nat r) false c (2 ^ 1074) = rescale (of_nat r) false r 1 c (2 ^ 1074) (pow_pos 0) (mul-one c) (nat-value r (le_trans hi (lit≤ tt))) in
     let s : AtMost (5 * 2 ^ 1074) (step_of freq (of_nat r)) =
     subst (AtMost (5 * 2 ^ 1074)) (sym (div-by binary64 m (of_nat r) w.at c (2 ^ 1074) (pow_pos 1074) C w.value rv))
     (at_most w.at c 5 1074 C (lit< tt) (lit< tt) (le_trans (mul-le-mul_right (2 ^ 1074) w.most) (le_trans (lit≤ tt) (mul-le-mul_left (5 * 2 ^ 1074) (mul-le-mul_right (2 ^ 1074) lo))))) in
     value-within tau (0x19_21fb_5444_2d18 * 2 ^ 1024) tau-value (step_of freq (of_nat r)) s.at s.value (lt_of_le_of_lt s.most (lit< tt))
-  where
-    pos_of : (r : ℕ) → 8000 ≤ r → 0 < r
-    pos_of r h = omega arith
 
 -- ---- 01's frequencies: the two of a dialling stage with no digits, Ansam's swing, the tones, Q.23's rows and columns, V.21's bits, Ansam
 abbrev pub frequencies : List ℕ

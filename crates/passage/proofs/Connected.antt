@@ -3,7 +3,7 @@
 use mathlib.Core.Path.{◌≡◌, refl, sym, ap, subst, ◌∙◌}
 use mathlib.Core.Logic.{◌↔◌}
 use mathlib.Core.List.{List, ◌∷◌, ◌++◌}
-use Prim.Native.Nat.{ℕ, zero, suc, ◌+◌, ◌-◌, ◌≤◌, ◌<◌}
+use Prim.Native.Nat.{ℕ, zero, suc, ◌+◌, ◌-◌, ◌≤◌}
 use native.Mathlib.Nat.{le_refl, le_antisymm, le_of_suc-le-suc, lt_of_not-le, add-zero, add-sub_of_le}
 use native.Mathlib.Omega.{arith}
 use lib.Ieee.{Float, binary32, of_bits}
@@ -28,10 +28,7 @@ module _ (digits : List ℕ) (r : ℕ) where
   -- it has no samples to count
   pub connected-lasts : Lasts digits r (enter_of stage.Connected digits r) stage.Connected 0 (enter_of stage.Connected digits r)
   unfolding after
-  connected-lasts = record { stays = λ j l. absurd (none j l); ends = refl }
-    where
-      none : (j : ℕ) → j < 0 → ⊥
-      none j l = omega arith
+  connected-lasts = record { stays = λ j l. absurd (omega arith); ends = refl }
 
   pub connected-zeros : (j : ℕ) → samples j Connected digits r ≡ zeros j
   unfolding samples state_next sample_next generate_of connected_of
@@ -43,11 +40,8 @@ module _ (digits : List ℕ) (r : ℕ) where
     pub connected-exactly : (k : ℕ) → (stage_of (after k (fresh digits r) digits r) ≡ stage.Connected) ↔ (T ≤ k)
     connected-exactly k = (from, up)
       where
-        ten : (n : ℕ) → n ≡ 10 → n ≤ 9 → ⊥
-        ten n e l = omega arith
-
         from : stage_of (after k (fresh digits r) digits r) ≡ stage.Connected → T ≤ k
-        from e = le_of_suc-le-suc (lt_of_not-le (λ (l : suc k ≤ T). ten _ (ap stage_number e) (h.playing k l)))
+        from e = le_of_suc-le-suc (lt_of_not-le (λ (l : suc k ≤ T). omega (arith, ap stage_number e, h.playing k l)))
 
         up : T ≤ k → stage_of (after k (fresh digits r) digits r) ≡ stage.Connected
         up l = subst (λ (n : ℕ). stage_of (after n (fresh digits r) digits r) ≡ stage.Connected) (add-sub_of_le l) (ap stage_of (h.connected (k - T)))

@@ -137,14 +137,11 @@ module _ (digits : List ℕ) (r : ℕ) (lo : 8000 ≤ r) (hi : r ≤ 192000) (fe
     unfolding samples_before
     silent j l = go (ltb j before) refl
       where
-        past : (i x j : ℕ) → j < x + i → x ≤ j → j - x < i
-        past i x j h k = omega arith
-
         go : (b : Bool) → ltb j before ≡ b → sounding p (after j (fresh digits r) digits r) ≡ false
         go true e = other-stage _ (not_after digits r lo hi few stage.DialTone (lit≤ tt) j (ltb-true j before e))
         go false e =
             let x = ltb-false j before e in
-            subst (λ (k : ℕ). sounding p (after k (fresh digits r) digits r) ≡ false) (add-sub_of_le x) (other-digit (j - before) (past _ before j l x))
+            subst (λ (k : ℕ). sounding p (after k (fresh digits r) digits r) ≡ false) (add-sub_of_le x) (other-digit (j - before) (omega arith))
 
     sounds : (k : ℕ) → InDigitTone digits r p k → in_digit_tone digits r p k ≡ true
     unfolding sounding

@@ -153,12 +153,9 @@ no-digits-last : (r : ℕ) → Lasts [] r (enter_of stage.Dialling [] r) stage.D
 unfolding after enter_of state_next generate_of dialling_of dial_step_of
 no-digits-last r = record { stays = stays; ends = refl }
   where
-    none : (j : ℕ) → suc j < 1 → ⊥
-    none j l = omega arith
-
     stays : (j : ℕ) → j < 1 → stage_of (after j (enter_of stage.Dialling [] r) [] r) ≡ stage.Dialling
     stays zero l = refl
-    stays (suc j) l = absurd (none j l)
+    stays (suc j) l = absurd (omega arith)
 
 pub dialling-lasts : (digits : List ℕ) (r : ℕ) → 8000 ≤ r → r ≤ 192000 → length digits ≤ 76
     → Lasts digits r (enter_of stage.Dialling digits r) stage.Dialling (dialling_length r (length digits)) (enter_of stage.Ringback digits r)

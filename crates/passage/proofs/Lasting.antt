@@ -39,13 +39,10 @@ module _ (digits : List ℕ) (r : ℕ) where
   pub then-lasts : (s t u : StageState) (k : Stage) (a b : ℕ) → Lasts digits r s k a t → Lasts digits r t k b u → Lasts digits r s k (a + b) u
   then-lasts s t u k a b f g = record { stays = stays; ends = after-add digits r a b s ∙ ap (λ (x : StageState). after b x digits r) f.ends ∙ g.ends }
     where
-      far : (a j : ℕ) → j < a + b → a ≤ j → j - a < b
-      far a j h l = omega arith
-
       later : (j : ℕ) → j < a + b → a ≤ j → stage_of (after j s digits r) ≡ k
       later j h l =
           subst (λ (n : ℕ). stage_of (after n s digits r) ≡ k) (add-sub_of_le l)
-          (rw (after-add digits r a (j - a) s, f.ends) (g.stays (j - a) (far a j h l)))
+          (rw (after-add digits r a (j - a) s, f.ends) (g.stays (j - a) (omega arith)))
 
       by : (j : ℕ) → j < a + b → (c : Bool) → ltb j a ≡ c → stage_of (after j s digits r) ≡ k
       by j h true e = f.stays j (ltb-true j a e)
@@ -77,10 +74,7 @@ module _ (digits : List ℕ) (r : ℕ) where
     last s a l e = after-suc digits r l s ∙ leaves l (after l s digits r) (at_each s a l (le_of_eq e)) e
 
     ended : (s : StageState) → At 0 s → (m : ℕ) → m ≡ L → after m s digits r ≡ enter_of (next_stage k) digits r
-    ended s a zero e = absurd (none (subst (λ (n : ℕ). 1 ≤ n) (sym e) reaches.some))
-      where
-        none : 1 ≤ 0 → ⊥
-        none h = omega arith
+    ended s a zero e = absurd (omega (arith, subst (λ (n : ℕ). 1 ≤ n) (sym e) reaches.some))
     ended s a (suc l) e = last s a l e
 
     pub lasts-with : (s : StageState) → At 0 s → LastsWith digits r s k At L (enter_of (next_stage k) digits r)

@@ -58,10 +58,7 @@ stage-some r lo hi d few stage.Ansam h = (ansam-range r lo hi).0
 stage-some r lo hi d few stage.CmJm h = (bits_range r lo hi 80 (lit≤ tt)).0
 stage-some r lo hi d few stage.Cj h = le_trans (bits_range r lo hi 60 (lit≤ tt)).0 (le-add_right _ _)
 stage-some r lo hi d few stage.Training h = (bits_range r lo hi 300 (lit≤ tt)).0
-stage-some r lo hi d few stage.Connected h = absurd (none h)
-  where
-    none : 10 ≤ 9 → ⊥
-    none h = omega arith
+stage-some r lo hi d few stage.Connected h = absurd (omega arith)
 
 module _ (digits : List ℕ) (r : ℕ) (lo : 8000 ≤ r) (hi : r ≤ 192000) (few : length digits ≤ 76) where
   -- each stage lasts its length
@@ -113,14 +110,8 @@ module _ (digits : List ℕ) (r : ℕ) (lo : 8000 ≤ r) (hi : r ≤ 192000) (fe
       → stage_number (stage_of (after j (fresh digits r) digits r)) ≤ stage_number k
   not_after k h j l =
       let some = stage-some r lo hi (length digits) few k h in
-      le_trans (never-falls digits r (fresh digits r) j (samples_before k r (length digits) + (stage_length k r (length digits) - 1)) (within _ _ j (rw (before-next k r (length digits)) at l)))
-      (le_of_eq (ap stage_number (stage_at_lem k (stage_length k r (length digits) - 1) (less _ some))))
-    where
-      within : (a b j : ℕ) → j < a + b → j ≤ a + (b - 1)
-      within a b j l = omega arith
-
-      less : (b : ℕ) → 1 ≤ b → b - 1 < b
-      less b h = omega arith
+      le_trans (never-falls digits r (fresh digits r) j (samples_before k r (length digits) + (stage_length k r (length digits) - 1)) (omega (arith, rw (before-next k r (length digits)) at l)))
+      (le_of_eq (ap stage_number (stage_at_lem k (stage_length k r (length digits) - 1) (omega arith))))
 
   -- ---- T
   pub overture-length : HasLength digits r (total r (length digits))
@@ -132,10 +123,7 @@ module _ (digits : List ℕ) (r : ℕ) (lo : 8000 ≤ r) (hi : r ≤ 192000) (fe
 
 -- ---- demand 3's bounds on T, and 01's on m: T and a buffer of 65,536 samples
 pub total-room : (r : ℕ) → 8000 ≤ r → r ≤ 192000 → (d : ℕ) → d ≤ 76 → total r d + 65536 ≤ 4863942
-total-room r lo hi d few = go (total r d) (total-range r lo hi d few).1
-  where
-    go : (T : ℕ) → T ≤ 4798406 → T + 65536 ≤ 4863942
-    go T h = omega arith
+total-room r lo hi d few = omega (arith, (total-range r lo hi d few).1)
 
 module _ (digits : List ℕ) (r : ℕ) (lo : 8000 ≤ r) (hi : r ≤ 192000) (few : length digits ≤ 76) where
   pub length-bounds : (T : ℕ) → HasLength digits r T

@@ -62,16 +62,10 @@ t-le t r n d hi h k = let near = mul-le-mul_right r h in omega arith
 
 -- t and q in range
 t-large : (t r n : ℕ) → r ≤ 192000 → 0 < n → 2 * (n * 2 ^ 72) ≤ 2 * (t * r) + r * 2 ^ 39 → 2 ^ 53 ≤ t
-t-large t r n hi h k = le_of_suc-le-suc (lt_of_not-le (λ (g : suc t ≤ 2 ^ 53). no (mul-le-mul_right r (le_of_lt g))))
-  where
-    no : t * r ≤ 2 ^ 53 * r → ⊥
-    no l = omega arith
+t-large t r n hi h k = le_of_suc-le-suc (lt_of_not-le (λ (g : suc t ≤ 2 ^ 53). omega (arith, mul-le-mul_right r (le_of_lt g))))
 
 t-small : (t r n : ℕ) → 8000 ≤ r → r ≤ 192000 → n ≤ 2 ^ 32 → 2 * (t * r) ≤ 2 * (n * 2 ^ 72) + r * 2 ^ 39 → t < 2 ^ 92
-t-small t r n lo hi h k = lt_of_not-le (λ (g : 2 ^ 92 ≤ t). no (mul-le-mul g lo))
-  where
-    no : 2 ^ 92 * 8000 ≤ t * r → ⊥
-    no l = omega arith
+t-small t r n lo hi h k = lt_of_not-le (λ (g : 2 ^ 92 ≤ t). omega (arith, mul-le-mul g lo))
 
 q-small : (t q : ℕ) → t < 2 ^ 92 → 2 * (q * F) ≤ 2 * (t * 2 ^ 72) + F * 2 ^ 42 → q < 2 ^ 51 * 2 ^ 72
 q-small t q h k = lt_of_not-le (λ (g : 2 ^ 51 * 2 ^ 72 ≤ q). not-le_of_lt (lt_of_le_of_lt k (sum (mul-lt-mul_of_pos_right h (pow_pos 72)))) (mul-le-mul_left 2 (mul-le-mul_right F g)))

@@ -63,10 +63,7 @@ module _ (s : Float) (S : ℕ) (step : HasValue s false S (2 ^ 62)) (small : S �
 
 -- ---- the step, and the pace that it keeps: P is n * S * r, Q is n * r, M is N * r
 step_small : (S r : ℕ) → 8000 ≤ r → r ≤ 192000 → 2 * (S * r) ≤ 2 * (300 * 2 ^ 62) + r * 2 ^ 5 → S ≤ 2 ^ 58
-step_small S r lo hi h = le_of_suc-le-suc (lt_of_not-le (λ (g : suc (2 ^ 58) ≤ S). no (mul-le-mul_right r (le_of_lt g))))
-  where
-    no : 2 ^ 58 * r ≤ S * r → ⊥
-    no k = omega arith
+step_small S r lo hi h = le_of_suc-le-suc (lt_of_not-le (λ (g : suc (2 ^ 58) ≤ S). (omega (arith, mul-le-mul_right r (le_of_lt g)))))
 
 few : (Q M n : ℕ) → 300 * 2 ^ 62 * n ≤ 2 ^ 62 * M + 1040 * Q → Q ≤ 192000 * n → 299 * n ≤ M
 few Q M n h k = omega arith

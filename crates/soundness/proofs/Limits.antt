@@ -1,18 +1,12 @@
 -- What the tests of the rate and of the digits tell as numbers. Assumes nothing.
-use mathlib.Core.Path.{◌≡◌, sym, subst}
-use mathlib.Core.Bool.{Bool, true, ◌&&◌, and-eq-true_iff}
+use mathlib.Core.Path.{◌≡◌}
+use mathlib.Core.Bool.{true, and-eq-true_iff}
 use mathlib.Core.List.{List}
 use Prim.Native.Nat.{ℕ, ◌≤◌}
-use lib.Dec.{T, leb}
+use lib.Dec.{leb}
 use lib.ListN.{length}
 use borrow.Author.Tests.{leb-true}
 use Rattle.soundness.specs.Sound.{rate_ok, digits_ok}
-
-pub holds : {b : Bool} → b ≡ true → T b
-holds e = subst T (sym e) tt
-
-pub both_true : {a b : Bool} → a ≡ true → b ≡ true → (a && b) ≡ true
-both_true p q = rw (p, q)
 
 pub rate-low : (r : ℕ) → rate_ok r ≡ true → 8000 ≤ r
 unfolding rate_ok

@@ -3,7 +3,7 @@
 use mathlib.Core.Path.{◌≡◌, refl, sym, subst}
 use mathlib.Core.Bool.{Bool, true, false, and-eq-true_iff}
 use mathlib.Core.List.{List, [], ◌∷◌}
-use Prim.Native.Nat.{ℕ, ◌*◌, ◌^◌, ◌≤◌, ◌<◌}
+use Prim.Native.Nat.{ℕ, ◌^◌, ◌≤◌, ◌<◌}
 use native.Mathlib.Nat.{le_trans}
 use native.Mathlib.Omega.{arith}
 use lib.Dec.{T, lit≤}
@@ -27,7 +27,8 @@ use Rattle.fsk.specs.declared.FskChannel.{FskChannel}
 use Rattle.fsk.specs.Modulator.{tone_of, fresh_modulator, keyed, bit_ends, next_modulator}
 use Rattle.fsk.specs.Channel.{fresh_channel, next_keyed, one_more_done, channel_by, next_channel}
 use Rattle.soundness.specs.Sound.{nco_ok, modulator_ok}
-use Rattle.soundness.proofs.Limits.{holds, both_true}
+use Rattle.std.proofs.lemmas.Bool.{and_from}
+use Rattle.std.proofs.lemmas.Float.{T_from_true}
 use Rattle.soundness.proofs.Oscillators.{Double, NcoFits, SoundNco, Hertz, hertz, nco-sound, nco-ok, nco-fits, fresh-nco, stepped-nco, retuned-nco}
 
 pub record ModulatorFits (m : Modulator) : Type 0 where
@@ -51,13 +52,10 @@ module _ (r : ℕ) (lo : 8000 ≤ r) (hi : r ≤ 192000) where
   unfolding symbol_step
   step-above =
       subst (λ (x : Float). T (le (round binary64 false 1 2048) x)) (sym (div-by binary64 (of_nat 300) (of_nat r) 300 r 1 (pow_pos 0) (some lo) (nat-value 300 (lit≤ tt)) (rate-value r hi)))
-      (round_mono binary64 1 2048 300 r (lit≤ tt) (some lo) (far hi))
+      (round_mono binary64 1 2048 300 r (lit≤ tt) (some lo) (omega arith))
     where
       some : 8000 ≤ r → 0 < r
       some h = omega arith
-
-      far : r ≤ 192000 → 1 * r ≤ 300 * 2048
-      far h = omega arith
 
   step-pos : 0 < (step_value r lo hi).0
   step-pos = le_trans (lit≤ tt) (of_le (round binary64 false 1 2048) (symbol_step r) (2 ^ 51) (step_value r lo hi).0 (2 ^ 62) (pow_pos 62) small-value (step_value r lo hi).1 step-above)
@@ -75,15 +73,15 @@ module _ (r : ℕ) (lo : 8000 ≤ r) (hi : r ≤ 192000) where
       record {
         nco = nco-sound r lo hi m.nco h.nco nco;
         phase-fits = h.phase;
-        phase-in = holds phase;
-        step = equal m.step (symbol_step r) (step_value r lo hi).0 (2 ^ 62) step-pos (pow_pos 62) (step_value r lo hi).1 h.step step_fits (holds step);
+        phase-in = T_from_true _ phase;
+        step = equal m.step (symbol_step r) (step_value r lo hi).0 (2 ^ 62) step-pos (pow_pos 62) (step_value r lo hi).1 h.step step_fits (T_from_true _ step);
       }
 
   pub modulator-ok : (m : Modulator) → SoundModulator m r → modulator_ok m r ≡ true
   unfolding modulator_ok
   modulator-ok m s =
-      both_true (nco-ok r lo hi m.nco s.nco)
-      (both_true (is_true (in_symbol m.phase) s.phase-in) (rw s.step (is_true (eq (symbol_step r) (symbol_step r)) (eq_self (symbol_step r) false (step_value r lo hi).0 (2 ^ 62) (step_value r lo hi).1))))
+      and_from _ _ (nco-ok r lo hi m.nco s.nco)
+      (and_from _ _ (is_true (in_symbol m.phase) s.phase-in) (rw s.step (is_true (eq (symbol_step r) (symbol_step r)) (eq_self (symbol_step r) false (step_value r lo hi).0 (2 ^ 62) (step_value r lo hi).1))))
 
   pub modulator-fits : (m : Modulator) → SoundModulator m r → ModulatorFits m
   modulator-fits m s = record { nco = nco-fits r lo hi m.nco s.nco; phase = s.phase-fits; step = rw s.step step_fits }

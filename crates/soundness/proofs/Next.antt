@@ -3,7 +3,7 @@
 use mathlib.Core.Path.{◌≡◌, refl, sym, subst, ◌∙◌}
 use mathlib.Core.Bool.{Bool, true, false, ◌||◌, true≢false}
 use mathlib.Core.List.{List}
-use Prim.Native.Nat.{ℕ, ◌+◌, ◌^◌, ◌≤◌, ◌<◌}
+use Prim.Native.Nat.{ℕ, ◌^◌, ◌≤◌, ◌<◌}
 use native.Mathlib.Nat.{le_of_lt}
 use native.Mathlib.Omega.{arith}
 use lib.Dec.{leb, eqb}
@@ -21,7 +21,7 @@ use Rattle.schedule.proofs.Count.{saturating-inc-is}
 use Rattle.schedule.proofs.Lengths.{dialling-range}
 use Rattle.fsk.specs.declared.FskChannel.{FskChannel}
 use Rattle.fsk.specs.Modulator.{bit_ends}
-use Rattle.fsk.specs.Channel.{most_done, next_channel}
+use Rattle.fsk.specs.Channel.{next_channel}
 use Rattle.fsk.proofs.Channel.{next-done}
 use Rattle.tones.specs.declared.Dial.{Dial}
 use Rattle.tones.specs.Mixed.{gated_of, answer_of}
@@ -61,11 +61,8 @@ module _ (r : ℕ) (lo : 8000 ≤ r) (hi : r ≤ 192000) where
   bits-next f payload N k e = record { modulator = next-channel r lo hi f payload k.modulator; done = leb-false N (next_channel f payload).done e }
 
   done-few : (f : FskChannel) (payload : List ℕ) → f.done < 60 → (next_channel f payload).done ≤ 60
-  done-few f payload h = rw (next-done f payload (below f.done h)) (go (bit_ends f.modulator))
+  done-few f payload h = rw (next-done f payload (omega arith)) (go (bit_ends f.modulator))
     where
-      below : (k : ℕ) → k < 60 → k < most_done
-      below k h = omega arith
-
       go : (b : Bool) → done_by b f.done ≤ 60
       go true = h
       go false = le_of_lt h
@@ -112,14 +109,8 @@ module _ (r : ℕ) (lo : 8000 ≤ r) (hi : r ≤ 192000) where
       or-true true = refl
       or-true false = refl
 
-      few : (L : ℕ) → n < L → L ≤ 2918401 → n < 0xffff_ffff
-      few L h l = omega arith
-
-      next : (L : ℕ) → n < L → L ≤ 2918401 → n + 1 ≤ 2 ^ 32
-      next L h l = omega arith
-
       most : (L : ℕ) → n < L → L ≤ 2918401 → saturating_inc n ≤ 2 ^ 32
-      most L h l = subst (λ (z : ℕ). z ≤ 2 ^ 32) (sym (saturating-inc-is n (few L h l))) (next L h l)
+      most L h l = subst (λ (z : ℕ). z ≤ 2 ^ 32) (sym (saturating-inc-is n (omega arith))) (omega arith)
 
   -- ---- states
   generated : (s : StageState) (digits : List ℕ) → length digits ≤ 76 → Facts s (length digits) r → (generate_of s digits r).finished ≡ false → Facts (generate_of s digits r).state (length digits) r

@@ -20,7 +20,8 @@ use Rattle.nco.proofs.Phase.{InRange, stepped-in-range}
 use Rattle.nco.proofs.Steps.{fresh-in-range, retuned-in-range}
 use Rattle.schedule.proofs.Samples.{rate-value}
 use Rattle.soundness.specs.Sound.{nco_ok}
-use Rattle.soundness.proofs.Limits.{holds, both_true}
+use Rattle.std.proofs.lemmas.Bool.{and_from}
+use Rattle.std.proofs.lemmas.Float.{T_from_true}
 
 -- a number of binary64, as every float that code holds
 abbrev pub Double : Float → Type 0
@@ -52,15 +53,15 @@ module _ (r : ℕ) (lo : 8000 ≤ r) (hi : r ≤ 192000) where
       let (phase, rest) = (and-eq-true_iff (phase_in_range o.phase) _).0 e in
       let (step, rate) = (and-eq-true_iff (phase_in_range o.step) _).0 rest in
       record {
-        in-range = record { phase-fits = h.phase; step_fits = h.step; phase-in = holds phase; step_in = holds step };
-        rate = equal o.rate (of_nat r) r 1 (omega arith) (zero-lt-suc 0) (rate-value r hi) h.rate (of_int-fits binary64 (pos r)) (holds rate);
+        in-range = record { phase-fits = h.phase; step_fits = h.step; phase-in = T_from_true _ phase; step_in = T_from_true _ step };
+        rate = equal o.rate (of_nat r) r 1 (omega arith) (zero-lt-suc 0) (rate-value r hi) h.rate (of_int-fits binary64 (pos r)) (T_from_true _ rate);
       }
 
   pub nco-ok : (o : Nco) → SoundNco o r → nco_ok o r ≡ true
   unfolding nco_ok
   nco-ok o s =
-      both_true (is_true (phase_in_range o.phase) s.in-range.phase-in)
-      (both_true (is_true (phase_in_range o.step) s.in-range.step_in) (rw s.rate (is_true (eq (of_nat r) (of_nat r)) (eq_self (of_nat r) false r 1 (rate-value r hi)))))
+      and_from _ _ (is_true (phase_in_range o.phase) s.in-range.phase-in)
+      (and_from _ _ (is_true (phase_in_range o.step) s.in-range.step_in) (rw s.rate (is_true (eq (of_nat r) (of_nat r)) (eq_self (of_nat r) false r 1 (rate-value r hi)))))
 
   pub nco-fits : (o : Nco) → SoundNco o r → NcoFits o
   nco-fits o s = record { phase = s.in-range.phase-fits; step = s.in-range.step_fits; rate = rw s.rate (of_int-fits binary64 (pos r)) }

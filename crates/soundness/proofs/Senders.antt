@@ -15,7 +15,7 @@ use Rattle.sender.proofs.Frames.{some_bits}
 use Rattle.sender.proofs.Edges.{next-is, Found, found}
 use Rattle.soundness.specs.Sound.{modulator_ok}
 use Rattle.soundness.specs.Sending.{sender_ok, sending_ok}
-use Rattle.soundness.proofs.Limits.{both_true}
+use Rattle.std.proofs.lemmas.Bool.{and_from}
 use Rattle.soundness.proofs.Oscillators.{Hertz, hertz}
 use Rattle.soundness.proofs.Modulators.{ModulatorFits, SoundModulator, modulator-sound, modulator-ok, fresh-modulator, keyed-modulator, next-modulator}
 
@@ -59,7 +59,7 @@ module _ (r : ℕ) (lo : 8000 ≤ r) (hi : r ≤ 192000) where
 
   pub sending-ok : (x : Sending) → SoundSending x r → sending_ok x r ≡ true
   unfolding sending_ok sender_ok queue_ok
-  sending-ok x s = both_true (both_true (modulator-ok r lo hi x.sender.modulator s.modulator) (le-leb _ 10 s.begun)) (le-leb _ 256 s.few)
+  sending-ok x s = and_from _ _ (and_from _ _ (modulator-ok r lo hi x.sender.modulator s.modulator) (le-leb _ 10 s.begun)) (le-leb _ 256 s.few)
 
   -- ---- fresh as the line goes up, a byte more, and none
   pub raised-sound : (x : Sending) → x.queue.len ≤ 256 → SoundSending (raised x r) r

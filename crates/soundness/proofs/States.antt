@@ -15,7 +15,8 @@ use Rattle.fsk.specs.declared.FskChannel.{FskChannel}
 use Rattle.stage.specs.declared.StageState.{StageState}
 use Rattle.stage.specs.declared.StageState.TheVariants.{OffHook, DialTone, Dialling, Ringback, Ci, Ansam, CmJm, Cj, Training, Connected}
 use Rattle.soundness.specs.Sound.{rate_ok, digits_ok, nco_ok, modulator_ok, digit_ok, ring_ok, tones_ok, dialling_ok, ringback_ok, bits_ok, cj_ok, state_ok, sound_state}
-use Rattle.soundness.proofs.Limits.{both_true, rate-low, rate-high}
+use Rattle.soundness.proofs.Limits.{rate-low, rate-high}
+use Rattle.std.proofs.lemmas.Bool.{and_from}
 use Rattle.soundness.proofs.Oscillators.{NcoFits, SoundNco, nco-sound, nco-ok, nco-fits}
 use Rattle.soundness.proofs.Modulators.{ModulatorFits, SoundModulator, modulator-sound, modulator-ok, modulator-fits}
 
@@ -106,24 +107,24 @@ module _ (r : ℕ) (lo : 8000 ≤ r) (hi : r ≤ 192000) where
 
   -- ---- and back
   tones-ok : (a b : Nco) (n end : ℕ) → SoundTones a b n end r → (NcoFits a × NcoFits b) × ((nco_ok a r && (nco_ok b r && ltb n end)) ≡ true)
-  tones-ok a b n end k = ((nco-fits r lo hi a k.first, nco-fits r lo hi b k.second), both_true (nco-ok r lo hi a k.first) (both_true (nco-ok r lo hi b k.second) (lt-ltb n end k.count)))
+  tones-ok a b n end k = ((nco-fits r lo hi a k.first, nco-fits r lo hi b k.second), and_from _ _ (nco-ok r lo hi a k.first) (and_from _ _ (nco-ok r lo hi b k.second) (lt-ltb n end k.count)))
 
   bits-ok : (f : FskChannel) (N : ℕ) → SoundBits f N r → ModulatorFits f.modulator × (bits_ok f N r ≡ true)
   unfolding bits_ok
-  bits-ok f N k = (modulator-fits r lo hi f.modulator k.modulator, both_true (modulator-ok r lo hi f.modulator k.modulator) (lt-ltb f.done N k.done))
+  bits-ok f N k = (modulator-fits r lo hi f.modulator k.modulator, and_from _ _ (modulator-ok r lo hi f.modulator k.modulator) (lt-ltb f.done N k.done))
 
   pub facts-ok : (s : StageState) (d : ℕ) → Facts s d r → StateFits s × (state_ok s d r ≡ true)
   unfolding state_ok tones_ok dialling_ok ringback_ok cj_ok
   facts-ok (OffHook rng n) d k = (tt, lt-ltb n (samples_in click_time r) k)
   facts-ok (DialTone a b n) d k = tones-ok a b n (samples_in one r) k
-  facts-ok (Dialling i on a b n) d k = let (fit, ok) = tones-ok a b n (dialling_length r d) k.tones in (fit, both_true k.digit ok)
-  facts-ok (Ringback a b n ring) d k = let (fit, ok) = tones-ok a b n (samples_in ringback_time r) k.tones in (fit, both_true k.ring-ok ok)
+  facts-ok (Dialling i on a b n) d k = let (fit, ok) = tones-ok a b n (dialling_length r d) k.tones in (fit, and_from _ _ k.digit ok)
+  facts-ok (Ringback a b n ring) d k = let (fit, ok) = tones-ok a b n (samples_in ringback_time r) k.tones in (fit, and_from _ _ k.ring-ok ok)
   facts-ok (Ci f) d k = bits-ok f 60 k
   facts-ok (Ansam carrier env n) d k = tones-ok carrier env n (samples_in ansam_time r) k
   facts-ok (CmJm f) d k = bits-ok f 80 k
   facts-ok (Cj f z) d k = (
     modulator-fits r lo hi f.modulator k.modulator,
-    both_true (modulator-ok r lo hi f.modulator k.modulator) (both_true (le-leb f.done 60 k.done) (lt-ltb z (samples_in cj_silence r) k.zeros)),
+    and_from _ _ (modulator-ok r lo hi f.modulator k.modulator) (and_from _ _ (le-leb f.done 60 k.done) (lt-ltb z (samples_in cj_silence r) k.zeros)),
   )
   facts-ok (Training f) d k = bits-ok f 300 k
   facts-ok Connected d k = (tt, refl)
@@ -147,4 +148,4 @@ Sound s digits r = StateFits s × (sound_state s digits r ≡ true)
 
 pub facts-sound : (s : StageState) (digits : List ℕ) (r : ℕ) → rate_ok r ≡ true → digits_ok digits ≡ true → Facts s (length digits) r → Sound s digits r
 unfolding sound_state
-facts-sound s digits r rate keys k = let (fit, ok) = facts-ok r (rate-low r rate) (rate-high r rate) s (length digits) k in (fit, both_true rate (both_true keys ok))
+facts-sound s digits r rate keys k = let (fit, ok) = facts-ok r (rate-low r rate) (rate-high r rate) s (length digits) k in (fit, and_from _ _ rate (and_from _ _ keys ok))

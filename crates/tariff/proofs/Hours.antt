@@ -13,7 +13,7 @@ use Rattle.std.specs.Prelude.{Result, Ok, Err}
 use Rattle.refusal.specs.declared.Refusal.{Refusal}
 use Rattle.refusal.specs.declared.Refusal.TheVariants.{TooLong, Start}
 use Rattle.tariff.specs.declared.Bill.{Bill}
-use Rattle.tariff.specs.Tariff.{unit, unit_pence, longest_call, charged, told, units_begun, bill_of}
+use Rattle.tariff.specs.Tariff.{unit, longest_call, charged, told, units_begun, bill_of}
 use Rattle.tariff.specs.Hours.{week_seconds, week, day, peak_begins, peak_ends, is_peak, unit_by, unit_at, next_unit, bought, buying, units_bought, Bought, bill_from, InsidePeak}
 use Rattle.tariff.proofs.Plain.{begun-least, charged-bill}
 
@@ -61,22 +61,16 @@ module _ (start ms : ℕ) where
     where
       plain : (k : ℕ) → ms ≤ 0 + k → ms ≤ k
       plain k l = omega arith
-  steps-stop (suc steps) k h l = go (leb ms (bought start k)) refl (λ e. steps-stop steps (suc k) (one_more k h (leb-false _ _ e)) (on steps k l))
+  steps-stop (suc steps) k h l = go (leb ms (bought start k)) refl (λ e. steps-stop steps (suc k) (one_more k h (leb-false _ _ e)) (omega arith))
     where
-      on : (s k : ℕ) → ms ≤ suc s + k → ms ≤ s + suc k
-      on s k l = omega arith
-
       go : (t : Bool) → leb ms (bought start k) ≡ t → (leb ms (bought start k) ≡ false → Bought start ms (buying steps start ms (suc k))) → Bought start ms (cond t k (buying steps start ms (suc k)))
       go true e later = record { covers = leb-true _ _ e; needed = h }
       go false e later = later e
 
   pub bought-units : Bought start ms (units_bought start ms)
   unfolding units_bought
-  bought-units = steps-stop ms 0 (λ j p. absurd (none j p)) (plain ms)
+  bought-units = steps-stop ms 0 (λ j p. absurd (omega arith)) (plain ms)
     where
-      none : (j : ℕ) → j < 0 → ⊥
-      none j p = omega arith
-
       plain : (m : ℕ) → m ≤ m + 0
       plain m = omega arith
 
@@ -87,17 +81,11 @@ pub record Buying (start ms b units : ℕ) : Type 0 where
 
 pub buying-none : (start ms : ℕ) → Buying start ms 0 0
 unfolding bought
-buying-none start ms = record { at = refl; needed = λ j p. absurd (none j p) }
-  where
-    none : (j : ℕ) → j < 0 → ⊥
-    none j p = omega arith
+buying-none start ms = record { at = refl; needed = λ j p. absurd (omega arith) }
 
 pub buying-on : (start ms b units u : ℕ) → u ≡ next_unit start b → Buying start ms b units → b < ms → Buying start ms (b + u) (units + 1)
-buying-on start ms b units u q i l = subst (λ (k : ℕ). Buying start ms (b + u) k) (plus_one units) (record { at = sum; needed = one_more start ms units i.needed (subst (λ (z : ℕ). z < ms) i.at l) })
+buying-on start ms b units u q i l = subst (λ (k : ℕ). Buying start ms (b + u) k) (omega arith) (record { at = sum; needed = one_more start ms units i.needed (subst (λ (z : ℕ). z < ms) i.at l) })
   where
-    plus_one : (k : ℕ) → suc k ≡ k + 1
-    plus_one k = omega arith
-
     sum : b + u ≡ bought start (suc units)
     sum = ap (λ (z : ℕ). b + z) (q ∙ ap (λ (z : ℕ). next_unit start z) i.at) ∙ ap (λ (z : ℕ). z + next_unit start (bought start units)) i.at ∙ sym (bought-next start units)
 
@@ -112,18 +100,12 @@ needed-few start ms (suc k) h = lt_of_le_of_lt (bought-grows start k) (h k (le_r
 pub no-fewer : (start ms longer u v : ℕ) → ms ≤ longer → Bought start ms u → Bought start longer v → u ≤ v
 no-fewer start ms longer u v h p q = go (leb u v) refl
   where
-    off : (a b c : ℕ) → a < b → b ≤ c → c ≤ a → ⊥
-    off a b c x y z = omega arith
-
     go : (t : Bool) → leb u v ≡ t → u ≤ v
     go true e = leb-true _ _ e
-    go false e = absurd (off (bought start v) ms longer (p.needed v (leb-false _ _ e)) h q.covers)
+    go false e = absurd (omega (arith, p.needed v (leb-false _ _ e), q.covers))
 
 pub bought-once : (start ms u v : ℕ) → Bought start ms u → Bought start ms v → u ≡ v
-bought-once start ms u v p q = both u v (no-fewer start ms ms u v (le_refl ms) p q) (no-fewer start ms ms v u (le_refl ms) q p)
-  where
-    both : (u v : ℕ) → u ≤ v → v ≤ u → u ≡ v
-    both u v h k = omega arith
+bought-once start ms u v p q = omega (arith, no-fewer start ms ms u v (le_refl ms) p q, no-fewer start ms ms v u (le_refl ms) q p)
 
 pub buying-done : (start ms b units : ℕ) → Buying start ms b units → ms ≤ b → units ≡ units_bought start ms
 buying-done start ms b units i l = bought-once start ms units (units_bought start ms) (record { covers = subst (λ (z : ℕ). ms ≤ z) i.at l; needed = i.needed }) (bought-units start ms)
@@ -204,23 +186,17 @@ module _ (ms start : ℕ) where
   from-rises : (longer : ℕ) → ms ≤ longer → longer ≤ longest_call → (told (bill_from ms start)).pence ≤ (told (bill_from longer start)).pence
   from-rises longer h l = go (leb week_seconds start) refl
     where
-      times : (a b : ℕ) → a ≤ b → a * unit_pence ≤ b * unit_pence
-      times a b h = omega arith
-
       go : (t : Bool) → leb week_seconds start ≡ t → (told (bill_from ms start)).pence ≤ (told (bill_from longer start)).pence
       go true e = rw (late-bill ms start (le_trans h l) (leb-true _ _ e), late-bill longer start l (leb-true _ _ e)) zero-le
       go false e =
           rw (bought-bill ms start (le_trans h l) (leb-false _ _ e), bought-bill longer start l (leb-false _ _ e))
-          (times (units_bought start ms) (units_bought start longer) (no-fewer start ms longer _ _ h (bought-units start ms) (bought-units start longer)))
+          (omega (arith, no-fewer start ms longer _ _ h (bought-units start ms) (bought-units start longer)))
 
   from-peak : InsidePeak start ms → bill_from ms start ≡ bill_of ms
-  from-peak p = bought-bill ms start (short p.weekday p.begins p.ends) (early p.weekday p.is_weekday p.ends) ∙ ap (λ (n : ℕ). Ok (charged n)) (peak-units start ms p) ∙ sym (charged-bill ms (short p.weekday p.begins p.ends))
+  from-peak p = bought-bill ms start (short p.weekday p.begins p.ends) (omega (arith, p.is_weekday, p.ends)) ∙ ap (λ (n : ℕ). Ok (charged n)) (peak-units start ms p) ∙ sym (charged-bill ms (short p.weekday p.begins p.ends))
     where
       short : (d : ℕ) → d * day + peak_begins ≤ start * 1000 → start * 1000 + ms ≤ d * day + peak_ends → ms ≤ longest_call
       short d b e = omega arith
-
-      early : (d : ℕ) → d < 5 → start * 1000 + ms ≤ d * day + peak_ends → start < week_seconds
-      early d D e = omega arith
 
   pub promised-from : (r : Result Bill Refusal) → r ≡ bill_from ms start → (r ≡ bill_from ms start) × ((ms ≤ longest_call → start < week_seconds → Bought start ms (told r).units) × (((longer : ℕ) → ms ≤ longer → longer ≤ longest_call → (told r).pence ≤ (told (bill_from longer start)).pence) × (InsidePeak start ms → r ≡ bill_of ms)))
   promised-from r e = (e, (λ h l. rw e (from-bought h l), (λ longer h l. rw e (from-rises longer h l), λ p. e ∙ from-peak p)))

@@ -1,6 +1,6 @@
 -- The plain tariff: the units begun cover the time, no fewer do, and a longer call never costs less, by what a quotient of whole numbers is. Computed
 -- at the edges that 02 names. Assumes nothing.
-use Prim.Native.Nat.{ℕ, ◌*◌, ◌≤◌, ◌<◌}
+use Prim.Native.Nat.{ℕ, ◌≤◌, ◌<◌}
 use mathlib.Core.Path.{◌≡◌, refl}
 use mathlib.Core.List.{[], ◌∷◌, map}
 use native.Mathlib.Nat.{le_trans}
@@ -11,7 +11,7 @@ use Rattle.std.specs.Prelude.{Result, Ok, Err}
 use Rattle.refusal.specs.declared.Refusal.{Refusal}
 use Rattle.refusal.specs.declared.Refusal.TheVariants.{TooLong}
 use Rattle.tariff.specs.declared.Bill.{Bill}
-use Rattle.tariff.specs.Tariff.{unit, unit_pence, longest_call, charged, told, units_begun, bill_of, Least}
+use Rattle.tariff.specs.Tariff.{unit, longest_call, charged, told, units_begun, bill_of, Least}
 
 pub begun-least : (ms : ℕ) → Least (units_begun ms) ms
 unfolding units_begun
@@ -36,10 +36,7 @@ pub bill-least : (ms : ℕ) → ms ≤ longest_call → Least (told (bill_of ms)
 bill-least ms h = rw (charged-bill ms h) (begun-least ms)
 
 pub bill-rises : (ms longer : ℕ) → ms ≤ longer → longer ≤ longest_call → (told (bill_of ms)).pence ≤ (told (bill_of longer)).pence
-bill-rises ms longer h l = rw (charged-bill ms (le_trans h l), charged-bill longer l) (times (units_begun ms) (units_begun longer) (begun-rises ms longer h))
-  where
-    times : (a b : ℕ) → a ≤ b → a * unit_pence ≤ b * unit_pence
-    times a b h = omega arith
+bill-rises ms longer h l = rw (charged-bill ms (le_trans h l), charged-bill longer l) (omega (arith, begun-rises ms longer h))
 
 -- so whatever answer is the bill's keeps what `charge` promises
 pub promised : (ms : ℕ) (r : Result Bill Refusal) → r ≡ bill_of ms → (r ≡ bill_of ms) × ((ms ≤ longest_call → Least (told r).units ms) × ((longer : ℕ) → ms ≤ longer → longer ≤ longest_call → (told r).pence ≤ (told (bill_of longer)).pence))

@@ -1,11 +1,8 @@
 -- `command::decimal` meets its contract: what is read so far, with what is left, is the number. Assumes nothing.
 use mathlib.Core.Path.{◌∙◌}
 use native.Mathlib.Omega.{arith}
-use Rattle.command.proofs.Digits.{at_first, stopped, passed, again, ended}
+use Rattle.command.proofs.Digits.{stopped, passed, again, ended}
 use Rattle.command.proofs.decimal.Goals as goal
-
-pub loop-byte-init : goal.loop-byte-init
-loop-byte-init c = at_first _
 
 pub returns-in_err-checked_mul : goal.returns-in_err-checked_mul
 returns-in_err-checked_mul c = c.from_residual.ensures ∙ passed _ _ _ c.loop-byte.invariant c.loop-byte-test.true (omega (arith, c.in_err-checked_mul.ensures))

@@ -1,19 +1,16 @@
 -- `narrow` meets its contract: the sign's bit and `narrow_bits` make the pattern of the rounded value, which is no NaN's. Assumes nothing.
 use Rattle.math.proofs.Narrowing.{narrow_bits-le, narrow_bits-no-nan, narrow-small, narrow-large, narrow-nan, sign_le, zero-narrow, field-small, field-large, low-digits}
 use Rattle.math.specs.Steps.{narrow_bits}
-use lib.Ieee.{binary64, to_bits, fits}
-use lib.Dec.{T, leb}
+use lib.Ieee.{binary64, to_bits}
+use lib.Dec.{leb}
 use lib.Pow.{pow_pos}
 use native.Mathlib.Nat.{mod-lt}
 use Prim.Native.Nat.{ℕ, ◌+◌, ◌^◌, ◌≤◌, ◌<◌, ◌%◌, ◌/◌}
 use mathlib.Core.Path.{◌≡◌, sym, subst, ap, ◌∙◌}
 use native.Mathlib.Omega.{arith}
+use Rattle.std.proofs.lemmas.Float.{T_from_true}
 use Rattle.math.proofs.narrow.Goals as goal
-use Rattle.math.proofs.narrow.Goals.{After-narrow_bits, Start}
-
--- what owning an `f64` tells: the format holds it
-held : (c : Start) → T (fits binary64 c.args.x)
-held c = subst T (sym c.well_formed.0.1) tt
+use Rattle.math.proofs.narrow.Goals.{After-narrow_bits}
 
 -- what `narrow_bits` gave, by the digits of the whole pattern
 narrowed-bits : (c : After-narrow_bits) →
@@ -40,10 +37,10 @@ float_from_bits-result c = let b = to_bits binary64 c.args.x in
     rw (c.sign_bit.ensures, narrowed-bits (goal.at.float_from_bits-result c).After-narrow_bits) (narrow_bits-no-nan (leb (2 ^ 63) b) (b % 2 ^ 63 / 2 ^ 52) (b % 2 ^ 52) (field-small _ c.if-m-lt4611686018427387904.true) (mod-lt b (pow_pos 52)))
 
 pub returns-then-m-lt4611686018427387904 : goal.returns-then-m-lt4611686018427387904
-returns-then-m-lt4611686018427387904 c = rw (c.sign_bit.ensures, narrowed-bits (goal.at.returns-then-m-lt4611686018427387904 c).After-narrow_bits) (narrow-small c.args.x (held (goal.at.returns-then-m-lt4611686018427387904 c).Start) (field-small _ c.if-m-lt4611686018427387904.true))
+returns-then-m-lt4611686018427387904 c = rw (c.sign_bit.ensures, narrowed-bits (goal.at.returns-then-m-lt4611686018427387904 c).After-narrow_bits) (narrow-small c.args.x (T_from_true _ c.well_formed.0.1) (field-small _ c.if-m-lt4611686018427387904.true))
 
 pub returns-else-m-lt4611686018427387904 : goal.returns-else-m-lt4611686018427387904
-returns-else-m-lt4611686018427387904 c = zero-narrow ∙ narrow-large c.args.x (held (goal.at.returns-else-m-lt4611686018427387904 c).Start) (field-large _ c.if-m-lt4611686018427387904.false)
+returns-else-m-lt4611686018427387904 c = zero-narrow ∙ narrow-large c.args.x (T_from_true _ c.well_formed.0.1) (field-large _ c.if-m-lt4611686018427387904.false)
 
 pub returns-else-x : goal.returns-else-x
 returns-else-x c = zero-narrow ∙ narrow-nan c.args.x c.if-x.false
