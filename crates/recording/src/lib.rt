@@ -11,6 +11,8 @@ use text::Page;
 
 pub mod words;
 
+const UNWRITABLE: &str = ": FILE has to be a path that can be written, and ";
+
 // The file that a program is to write, and where it says what fails.
 #[derive(Drop)]
 pub struct Target<'a, R, E> {
@@ -140,12 +142,17 @@ impl<R: Files, E: Print> Target<'_, R, E> {
     }
 
     fn cannot_write(&self, why: io::Error) {
-        self.fail(MUST, self.path, " is not", why);
+        self.fail(UNWRITABLE, self.path, " is not", why);
     }
 
     fn cannot_write_first(&self, why: io::Error) {
         let part = self.part();
-        self.fail(MUST, part.text(), ", which is written first, is not", why);
+        self.fail(
+            UNWRITABLE,
+            part.text(),
+            ", which is written first, is not",
+            why,
+        );
     }
 
     // Says what failed with a path, and the system's word for why.
@@ -158,8 +165,6 @@ impl<R: Files, E: Print> Target<'_, R, E> {
         console::stream::fail(self.errors, line.text(), why);
     }
 }
-
-const MUST: &str = ": FILE has to be a path that can be written, and ";
 
 // A byte that would end the quotes or the line is written as its number.
 fn put_quoted(line: &mut Page<16640>, path: &[u8]) {

@@ -1,5 +1,5 @@
 -- No part of 01, for `tap`, `call` and `earpiece`: numbers and samples as bytes, the low byte first.
-use Rattle.std.specs.Prelude.{◌≡◌, ℕ, zero, suc, ◌/◌, ◌%◌, List, [], ◌∷◌, length, to_bits, Float, refl}
+use Rattle.std.specs.Prelude.{ℕ, zero, suc, ◌/◌, ◌%◌, List, [], ◌∷◌, to_bits, Float}
 use Rattle.std.proofs.Math.IntN.{ℤ}
 use Rattle.std.specs.Float.{binary32}
 use Rattle.std.specs.Int.{w16, cast_unsigned}
@@ -21,11 +21,3 @@ whole_bytes x = low_first 2 (cast_unsigned w16 x)
 -- the bytes of floats, of one behind those of another
 abbrev pub bytes_of : List Float → List ℕ
 bytes_of = flat_map float_bytes
-
-pub float_size : (x : Float) → length (float_bytes x) ≡ 4
-unfolding float_bytes low_first
-float_size x = refl
-
-pub whole_size : (x : ℤ) → length (whole_bytes x) ≡ 2
-unfolding whole_bytes low_first
-whole_size x = refl

@@ -7,8 +7,9 @@ pub mod wav;
 ghost use Rattle.std.specs.Prelude.{◌≡◌, ℕ, List, length, to_bits};
 ghost use Rattle.std.specs.Float.{binary32};
 ghost use Rattle.std.specs.List.{flat_map};
-ghost use Rattle.samples.specs.Bytes.{low_first, float_bytes, whole_bytes, float_size, whole_size};
-ghost use Rattle.samples.specs.Wav.{header_of, whole_header_of, header_by, float_header, whole_header};
+ghost use Rattle.samples.specs.Bytes.{low_first, float_bytes, whole_bytes};
+ghost use Rattle.samples.specs.Wav.{header_of, whole_header_of};
+ghost use Rattle.samples.specs.Laws.{header_by, float_size, whole_size, float_header, whole_header};
 ghost use Rattle.text.specs.Page.{add_of};
 
 use std::convert::AsSlice;

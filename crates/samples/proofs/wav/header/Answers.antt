@@ -1,7 +1,7 @@
 -- `samples::wav::header` meets its contract: its texts, which fit, are one behind the other. Assumes nothing.
 use Rattle.std.proofs.Common.{◌≡◌, ◌==◌, ◌∙◌, sym, refl, false, ne_eqb}
 use Rattle.samples.specs.Bytes.{low_first}
-use Rattle.samples.specs.Wav.{numbers_by, header_if, header_by}
+use Rattle.samples.specs.Laws.{numbers_by, header_if, header_by}
 use Rattle.text.specs.Page.{add_of, add_if}
 use Rattle.samples.proofs.wav.header.Goals as goal
 use Rattle.samples.proofs.wav.header.Goals.{then-extended, else-extended, then-extended-2, else-extended-2}
