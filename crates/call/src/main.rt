@@ -41,12 +41,10 @@ fn with_digits(rt: &(impl Env + Files + Print), errors: &impl Print) {
 
 fn with_rate(rt: &(impl Env + Files + Print), errors: &impl Print, digits: &[u8]) {
     if words::all_dialled(digits) {
-        let rate = words::rate(rt);
-        if soundness::rate_ok(rate) {
-            with_file(rt, errors, digits, rate);
-            return;
+        match words::rate(rt) {
+            Some(rate) if soundness::rate_ok(rate) => with_file(rt, errors, digits, rate),
+            _ => words::no_rate(errors, b"call"),
         }
-        words::no_rate(errors, b"call");
         return;
     }
     words::no_key(errors, b"call");

@@ -5,7 +5,7 @@ use mathlib.Core.Path.{◌≡◌, refl}
 use Rattle.std.specs.Prelude.{Option, None, Some}
 use Rattle.console.specs.declared.lines.Call.{Call}
 use Rattle.console.specs.declared.lines.Call.TheVariants.{Rate, Typed, Lapse, Fill, ForcedData, Cue, Kept, String as string, Bits, Frame, Key, Queued}
-use Rattle.console.specs.Lines.{cut, fields_of, all_digits, value_from, number_if, number_of, also, numbers_of, fill_if, fill_call, typed_if, typed_call, lapse_if, lapse_call, call_if, cue_call, kept_call, bits_call, queue_call, string_if, string_call, bare_call, added_call, one_call, two_call, three_call, numbers_call, letter_call, fields_call, call_of}
+use Rattle.console.specs.Lines.{cut, fields_of, all_digits, value_from, number_if, number_of, also, numbers_of, fill_if, fill_call, typed_if, typed_call, lapse_if, lapse_call, call_if, cue_call, kept_call, bits_call, queue_call, string_if, string_call, bare_call, added_call, one_call, two_call, three_call, numbers_call, call_of}
 use Rattle.ascii.specs.Ascii.{ascii}
 
 -- a line of `wall`, and of `tap --ext`
@@ -31,7 +31,7 @@ calls : (plain "R,8000" ≡ Some (Rate 8000))
     × (extended "K" ≡ Some Key)
     × (extended "Q,255" ≡ Some (Queued 255))
     × (plain "R,99999999999999999999999" ≡ Some (Rate 4294967295))
-unfolding plain extended cut fields_of all_digits value_from number_if number_of also numbers_of fill_if fill_call typed_if typed_call lapse_if lapse_call call_if cue_call kept_call bits_call queue_call string_if string_call bare_call added_call one_call two_call three_call numbers_call letter_call fields_call call_of
+unfolding plain extended cut fields_of all_digits value_from number_if number_of also numbers_of fill_if fill_call typed_if typed_call lapse_if lapse_call call_if cue_call kept_call bits_call queue_call string_if string_call bare_call added_call one_call two_call three_call numbers_call call_of
 calls = (refl, refl, refl, refl, refl, refl, refl, refl, refl, refl, refl, refl, refl, refl, refl, refl)
 
 others : (plain "" ≡ None)
@@ -67,5 +67,5 @@ others : (plain "" ≡ None)
     × (plain "Q,65" ≡ None)
     × (extended "Q,256" ≡ None)
     × (extended "Q" ≡ None)
-unfolding plain extended cut fields_of all_digits value_from number_if number_of also numbers_of fill_if fill_call typed_if typed_call lapse_if lapse_call call_if cue_call kept_call bits_call queue_call string_if string_call bare_call added_call one_call two_call three_call numbers_call letter_call fields_call call_of
+unfolding plain extended cut fields_of all_digits value_from number_if number_of also numbers_of fill_if fill_call typed_if typed_call lapse_if lapse_call call_if cue_call kept_call bits_call queue_call string_if string_call bare_call added_call one_call two_call three_call numbers_call call_of
 others = (refl, refl, refl, refl, refl, refl, refl, refl, refl, refl, refl, refl, refl, refl, refl, refl, refl, refl, refl, refl, refl, refl, refl, refl, refl, refl, refl, refl, refl, refl, refl, refl, refl)

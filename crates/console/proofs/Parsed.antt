@@ -3,21 +3,20 @@
 use Prim.Native.Nat.{ℕ, ◌-◌, ◌^◌, ◌<◌, ◌≤◌}
 use mathlib.Core.Bool.{Bool, true, false, ◌&&◌, and-false}
 use mathlib.Core.List.{List, [], ◌∷◌, map}
-use mathlib.Core.Path.{◌≡◌, refl, ap, ◌∙◌}
+use mathlib.Core.Path.{◌≡◌, refl, ap, sym, ◌∙◌}
 use native.Mathlib.Omega.{arith}
-use borrow.Author.Tests.{leb-false, lt-leb, le-ltb}
+use borrow.Author.Tests.{lt-leb, le-ltb}
 use lib.Dec.{leb, ltb}
 use lib.ListN.{length, get_or}
 use Rattle.std.proofs.lemmas.List.{length-map}
 use Rattle.std.specs.Prelude.{Option, None, Some}
-use Rattle.std.specs.Option.{option_zip}
 use Rattle.console.specs.declared.lines.Call.{Call}
 use Rattle.console.specs.declared.lines.Call.TheVariants.{Rate, Cue, Kept, Bits, Queued}
 use Rattle.console.specs.declared.lines.Parser.{Parser}
-use Rattle.console.specs.Lines.{is, fields_of, numbers_of, bare_call, fill_call, fill_if, longest_of, typed_call, typed_if, lapse_call, lapse_if, call_if, cue_call, kept_call, bits_call, queue_call, string_call, string_if, added_call, one_call, two_call, three_call, numbers_call, letter_call, fields_call, call_of}
-use Rattle.console.specs.Fields.{in_64, in_64_if, least, told, told_if, letter_told, lettered_told}
-use Rattle.console.specs.Parser.{parsed_of, told_call, answer_of}
-use Rattle.console.proofs.Reading.{limited, saturated, lettered-told}
+use Rattle.console.specs.Lines.{is, bare_call, fill_call, fill_if, longest_of, typed_call, typed_if, lapse_call, lapse_if, call_if, cue_call, kept_call, bits_call, queue_call, string_call, string_if, added_call, one_call, two_call, three_call, numbers_call, call_of}
+use Rattle.console.specs.Fields.{in_64, in_64_if, least}
+use Rattle.console.specs.Parser.{parsed_of, answer_of}
+use Rattle.console.proofs.Reading.{limited, saturated, letter-asked}
 
 abbrev cap : ℕ → ℕ
 cap n = least (in_64 n)
@@ -121,7 +120,7 @@ numbers-call x letter (n ∷ m ∷ []) = two-told (is "T" letter) (is "W" letter
 numbers-call x letter (n ∷ m ∷ o ∷ []) = three-told (x && is "T" letter) (x && is "S" letter) n m o
 numbers-call x letter (n ∷ m ∷ o ∷ p ∷ ns) = refl
 
-many : (x : Bool) (letter : ℕ) (ns : List ℕ) → 3 < length ns → None ≡ numbers_call x letter ns
+many : (x : Bool) (letter : ℕ) (ns : List ℕ) → 3 < length ns → numbers_call x letter ns ≡ None
 unfolding numbers_call
 many x letter [] h = absurd (omega arith)
 many x letter (n ∷ []) h = absurd (omega arith)
@@ -129,23 +128,9 @@ many x letter (n ∷ m ∷ []) h = absurd (omega arith)
 many x letter (n ∷ m ∷ o ∷ []) h = absurd (omega arith)
 many x letter (n ∷ m ∷ o ∷ p ∷ ns) h = refl
 
-letter-call : (x : Bool) (first : List ℕ) (later : List (List ℕ)) → told_call x (letter_told 3 first later) ≡ fields_call x first later
-unfolding letter_told told told_if fields_call letter_call
-letter-call x [] later = refl
-letter-call x (letter ∷ b ∷ bs) later = refl
-letter-call x (letter ∷ []) later = go (numbers_of later)
-  where
-    few : (t : Bool) (ns : List ℕ) → leb (length ns) 3 ≡ t → told_call x (option_zip (Some letter) (told_if t ns)) ≡ numbers_call x letter ns
-    few true ns e = numbers-call x letter ns
-    few false ns e = many x letter ns (leb-false (length ns) 3 e)
-
-    go : (m : Option (List ℕ)) → told_call x (option_zip (Some letter) (told 3 m)) ≡ letter_call x letter m
-    go None = refl
-    go (Some ns) = few (leb (length ns) 3) ns refl
-
 pub parsed-call : (x : Bool) (line : List ℕ) → answer_of (parsed_of x line) ≡ call_of x line
-unfolding answer_of call_of lettered_told
-parsed-call x line = ap (told_call x) (lettered-told 3 line) ∙ letter-call x (fields_of line).first (fields_of line).later
+unfolding call_of
+parsed-call x line = letter-asked 3 (numbers_call x) (λ letter. record { same = numbers-call x letter; many = many x letter }) line
 
 -- so what the parser answers is told of the line that it holds
 pub answered : (r : Option Call) (p : Parser) → r ≡ answer_of p → (x : Bool) (line : List ℕ) → p ≡ parsed_of x line → r ≡ call_of x line
@@ -180,4 +165,4 @@ module _ (x : Bool) (letter : ℕ) where
   by-three (n ∷ m ∷ o ∷ p ∷ ns) a b c l h e = absurd (omega arith)
 
   pub by-more : (ns : List (Option ℕ)) → 4 ≤ length ns → None ≡ numbers_call x letter (map least ns)
-  by-more ns l = many x letter (map least ns) (rw (length-map ns least) l)
+  by-more ns l = sym (many x letter (map least ns) (rw (length-map ns least) l))

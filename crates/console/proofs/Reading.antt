@@ -4,7 +4,7 @@ use mathlib.Core.Bool.{Bool, true, false, and-eq-true_iff}
 use mathlib.Core.List.{List, [], ◌∷◌, ◌++◌, append_assoc, foldl, map}
 use mathlib.Core.Path.{◌≡◌, refl, ap, sym, ◌∙◌}
 use native.Mathlib.Omega.{arith}
-use borrow.Author.Tests.{leb-true, ltb-true, ltb-false, lt-leb, le-leb, lt-ltb, le-ltb, ne_eqb}
+use borrow.Author.Tests.{leb-true, leb-false, ltb-true, ltb-false, lt-leb, le-leb, lt-ltb, le-ltb, ne_eqb}
 use lib.Dec.{leb, ltb}
 use lib.ListN.{length, take, set, get_or, length-append}
 use lib.Seq.{length-take-le}
@@ -13,8 +13,8 @@ use Rattle.std.specs.Prelude.{Option, None, Some, option_map}
 use Rattle.std.specs.Option.{option_zip}
 use Rattle.console.specs.declared.fields.Place.{Place}
 use Rattle.console.specs.declared.fields.Place.TheVariants.{Letter, Empty, Digit}
-use Rattle.console.specs.Lines.{is, Fields, cut, fields_of, is_digit, all_digits, value_from, number_if, number_of, numbers_of, also}
-use Rattle.console.specs.Fields.{in_64, in_64_if, least, told, told_if, numbers_told, letter_told, lettered_told, Read, grown, last_grown, first_if, next_if, pushed, pushed_at, letter_if, behind_if, numbers, numbered, lettered, read_of}
+use Rattle.console.specs.Lines.{is, Fields, cut, fields_of, is_digit, all_digits, value_from, number_if, number_of, numbers_of, also, of_numbers, of_letter, numbers_line, letter_line}
+use Rattle.console.specs.Fields.{in_64, in_64_if, least, Read, grown, last_grown, first_if, next_if, pushed, pushed_at, letter_if, behind_if, numbers, numbered, lettered, read_of, by_told, asked_by_letter, by_told_numbers, asked_by_numbers}
 
 -- the last of the numbers, by its place
 grown_last : (k : ℕ) (ns : List (Option ℕ)) (d : ℕ) → k < length ns → take (suc k) (set ns k (grown (get_or ns k None) d)) ≡ last_grown (take (suc k) ns) d
@@ -161,6 +161,15 @@ module _ (room : ℕ) (letter : Option ℕ) where
   }
 
 -- ---- a whole line
+-- all numbers of a line, as they are told: at most `room` of them
+told_if : Bool → List ℕ → Option (List (Option ℕ))
+told_if true ns = Some (map in_64 ns)
+told_if false ns = None
+
+told : (room : ℕ) → Option (List ℕ) → Option (List (Option ℕ))
+told room None = None
+told room (Some ns) = told_if (leb (length ns) room) ns
+
 joined-told : (room : ℕ) (m : Option (List ℕ)) → joined room [] m ≡ told room m
 unfolding joined joined_if told told_if
 joined-told room None = refl
@@ -190,13 +199,17 @@ unfolding second with_letter
 second-with letter None = refl
 second-with letter (Some ns) = refl
 
-pub numbered-told : (room : ℕ) (line : List ℕ) → numbers (read_of room numbered line) ≡ numbers_told room line
-unfolding numbers_told
+numbered-told : (room : ℕ) (line : List ℕ) → numbers (read_of room numbered line) ≡ told room (numbers_of ((fields_of line).first ∷ (fields_of line).later))
 numbered-told room line =
     by-second (read_of room numbered line)
     ∙ ap second ((ends room None line).empty [] zero-le)
     ∙ second-with None (joined room [] (numbers_of ((fields_of line).first ∷ (fields_of line).later)))
     ∙ joined-told room (numbers_of ((fields_of line).first ∷ (fields_of line).later))
+
+letter_told : (room : ℕ) → List ℕ → List (List ℕ) → Option (ℕ × List (Option ℕ))
+letter_told room [] fs = None
+letter_told room (letter ∷ []) fs = option_zip (Some letter) (told room (numbers_of fs))
+letter_told room (letter ∷ b ∷ bs) fs = None
 
 -- the letter and the numbers, by what the reader answers
 zipped : Option (Option ℕ × List (Option ℕ)) → Option (ℕ × List (Option ℕ))
@@ -242,9 +255,41 @@ module _ (room : ℕ) where
       go true = ap zipped (spoiled room None l [])
       go false = behind b l
 
-pub lettered-told : (room : ℕ) (line : List ℕ) → option_zip (read_of room lettered line).letter (numbers (read_of room lettered line)) ≡ lettered_told room line
-unfolding lettered_told
+lettered-told : (room : ℕ) (line : List ℕ) → option_zip (read_of room lettered line).letter (numbers (read_of room lettered line)) ≡ letter_told room (fields_of line).first (fields_of line).later
 lettered-told room line = by-zipped (read_of room lettered line) ∙ from_start room line
+
+-- ---- so what a line asks for is what its reader is told to, where no answer is lost by how numbers are told
+pub record Told {A : Type 0} (room : ℕ) (asks : List ℕ → Option A) : Type 0 where
+  pub same : (ns : List ℕ) → asks (map least (map in_64 ns)) ≡ asks ns
+  pub many : (ns : List ℕ) → room < length ns → asks ns ≡ None
+
+module _ {A : Type 0} (room : ℕ) where
+  by-numbers : (asks : List ℕ → Option A) → Told room asks → (m : Option (List ℕ)) → by_told_numbers asks (told room m) ≡ of_numbers asks m
+  unfolding told told_if
+  by-numbers asks t None = refl
+  by-numbers asks t (Some ns) = go (leb (length ns) room) refl
+    where
+      go : (few : Bool) → leb (length ns) room ≡ few → by_told_numbers asks (told_if few ns) ≡ asks ns
+      go true e = t.same ns
+      go false e = sym (t.many ns (leb-false (length ns) room e))
+
+  pub numbers-asked : (asks : List ℕ → Option A) → Told room asks → (line : List ℕ) → asked_by_numbers asks (read_of room numbered line) ≡ numbers_line asks line
+  numbers-asked asks t line =
+      ap (by_told_numbers asks) (numbered-told room line)
+      ∙ by-numbers asks t (numbers_of ((fields_of line).first ∷ (fields_of line).later))
+
+  by-zip : (asks : ℕ → List ℕ → Option A) (letter : ℕ) (ns : Option (List (Option ℕ))) → by_told asks (option_zip (Some letter) ns) ≡ by_told_numbers (asks letter) ns
+  by-zip asks letter None = refl
+  by-zip asks letter (Some ns) = refl
+
+  by-letter : (asks : ℕ → List ℕ → Option A) → ((letter : ℕ) → Told room (asks letter)) → (first : List ℕ) (later : List (List ℕ)) → by_told asks (letter_told room first later) ≡ of_letter asks first later
+  unfolding letter_told
+  by-letter asks t [] later = refl
+  by-letter asks t (letter ∷ []) later = by-zip asks letter (told room (numbers_of later)) ∙ by-numbers (asks letter) (t letter) (numbers_of later)
+  by-letter asks t (letter ∷ b ∷ bs) later = refl
+
+  pub letter-asked : (asks : ℕ → List ℕ → Option A) → ((letter : ℕ) → Told room (asks letter)) → (line : List ℕ) → asked_by_letter asks (read_of room lettered line) ≡ letter_line asks line
+  letter-asked asks t line = ap (by_told asks) (lettered-told room line) ∙ by-letter asks t (fields_of line).first (fields_of line).later
 
 -- ---- a number as it is told: no answer is lost by that, if it is the same for all numbers beyond a limit
 told-within : (n : ℕ) → n < 2 ^ 64 → least (in_64 n) ≡ n

@@ -1,12 +1,12 @@
--- A line of fields parted by commas, as the programs read it: its numbers in decimal digits, each told in 64 bits (`told`), and how the reader comes to them,
--- byte by byte. What a field and its number are, Lines.antt says.
+-- How a line of fields is read, byte by byte: what the reader holds after some bytes of a line (`read_of`), and what a program makes of the numbers that it
+-- tells at the end (`asked_by_letter`, `asked_by_numbers`), each in 64 bits. What a field and its number are, Lines.antt says.
 use Prim.Native.Char.{code}
-use Rattle.std.specs.Prelude.{ℕ, ◌+◌, ◌-◌, ◌*◌, ◌^◌, Bool, true, false, leb, ltb, length, Option, None, Some}
+use Rattle.std.specs.Prelude.{ℕ, ◌+◌, ◌-◌, ◌*◌, ◌^◌, Bool, true, false, ltb, length, Option, None, Some}
 use Rattle.std.specs.Option.{option_zip}
 use mathlib.Core.List.{List, [], ◌∷◌, ◌++◌, foldl, map}
 use Rattle.console.specs.declared.fields.Place.{Place}
 use Rattle.console.specs.declared.fields.Place.TheVariants.{Start, Letter, Empty, Digit}
-use Rattle.console.specs.Lines.{is, is_digit, fields_of, numbers_of}
+use Rattle.console.specs.Lines.{is, is_digit}
 
 -- a number in 64 bits, and none beyond them
 unfoldable pub in_64_if : Bool → ℕ → Option ℕ
@@ -20,27 +20,6 @@ in_64 n = in_64_if (ltb n (2 ^ 64)) n
 abbrev pub least : Option ℕ → ℕ
 least (Some n) = n
 least None = 2 ^ 64
-
--- numbers as they are told, at most `room` of them
-unfoldable pub told_if : Bool → List ℕ → Option (List (Option ℕ))
-told_if true ns = Some (map in_64 ns)
-told_if false ns = None
-
-unfoldable pub told : (room : ℕ) → Option (List ℕ) → Option (List (Option ℕ))
-told room None = None
-told room (Some ns) = told_if (leb (length ns) room) ns
-
--- of a line of numbers alone, and of one whose first field is a letter
-unfoldable pub numbers_told : (room : ℕ) → List ℕ → Option (List (Option ℕ))
-numbers_told room line = told room (numbers_of ((fields_of line).first ∷ (fields_of line).later))
-
-unfoldable pub letter_told : (room : ℕ) → List ℕ → List (List ℕ) → Option (ℕ × List (Option ℕ))
-letter_told room [] fs = None
-letter_told room (letter ∷ []) fs = option_zip (Some letter) (told room (numbers_of fs))
-letter_told room (letter ∷ b ∷ bs) fs = None
-
-unfoldable pub lettered_told : (room : ℕ) → List ℕ → Option (ℕ × List (Option ℕ))
-lettered_told room line = letter_told room (fields_of line).first (fields_of line).later
 
 -- ---- what the bytes of a line so far come to: the letter, the numbers, the last of which may go on, and where the next byte stands; no place where the line
 -- is none, whatever follows
@@ -111,3 +90,18 @@ numbers r = numbers_at r.place r.numbers
 -- all bytes of a line
 abbrev pub read_of : (room : ℕ) → Read → List ℕ → Read
 read_of room r line = foldl (pushed room) r line
+
+-- ---- what is asked for by the numbers that are told: one beyond 64 bits counts as the least that is
+abbrev pub by_told : {A : Type 0} → (ℕ → List ℕ → Option A) → Option (ℕ × List (Option ℕ)) → Option A
+by_told asks None = None
+by_told asks (Some (letter, ns)) = asks letter (map least ns)
+
+abbrev pub asked_by_letter : {A : Type 0} → (ℕ → List ℕ → Option A) → Read → Option A
+asked_by_letter asks r = by_told asks (option_zip r.letter (numbers r))
+
+abbrev pub by_told_numbers : {A : Type 0} → (List ℕ → Option A) → Option (List (Option ℕ)) → Option A
+by_told_numbers asks None = None
+by_told_numbers asks (Some ns) = asks (map least ns)
+
+abbrev pub asked_by_numbers : {A : Type 0} → (List ℕ → Option A) → Read → Option A
+asked_by_numbers asks r = by_told_numbers asks (numbers r)

@@ -51,6 +51,23 @@ unfoldable pub numbers_of : List (List ℕ) → Option (List ℕ)
 numbers_of [] = Some []
 numbers_of (f ∷ fs) = also (number_of f) (numbers_of fs)
 
+-- what the fields of a line ask for: of numbers alone, and of one letter with numbers behind it; nothing, where they are not so
+abbrev pub of_numbers : {A : Type 0} → (List ℕ → Option A) → Option (List ℕ) → Option A
+of_numbers asks None = None
+of_numbers asks (Some ns) = asks ns
+
+abbrev pub of_letter : {A : Type 0} → (ℕ → List ℕ → Option A) → List ℕ → List (List ℕ) → Option A
+of_letter asks [] fs = None
+of_letter asks (letter ∷ []) fs = of_numbers (asks letter) (numbers_of fs)
+of_letter asks (letter ∷ b ∷ bs) fs = None
+
+abbrev pub numbers_line : {A : Type 0} → (List ℕ → Option A) → List ℕ → Option A
+numbers_line asks line = of_numbers asks (numbers_of ((fields_of line).first ∷ (fields_of line).later))
+
+abbrev pub letter_line : {A : Type 0} → (ℕ → List ℕ → Option A) → List ℕ → Option A
+letter_line asks line = of_letter asks (fields_of line).first (fields_of line).later
+
+-- ---- the calls
 -- R,rate: a rate too long for the type is the type's largest, and so outside the limits
 abbrev pub rate_call : ℕ → Option Call
 rate_call n = Some (Rate (min n (2 ^ 32 - 1)))
@@ -150,15 +167,6 @@ numbers_call extended letter (n ∷ m ∷ []) = two_call (is "T" letter) (is "W"
 numbers_call extended letter (n ∷ m ∷ o ∷ []) = three_call (extended && is "T" letter) (extended && is "S" letter) n m o
 numbers_call extended letter (n ∷ m ∷ o ∷ p ∷ ns) = None
 
-unfoldable pub letter_call : Bool → ℕ → Option (List ℕ) → Option Call
-letter_call extended letter None = None
-letter_call extended letter (Some ns) = numbers_call extended letter ns
-
 -- the first field is one letter, and the others are its numbers
-unfoldable pub fields_call : Bool → List ℕ → List (List ℕ) → Option Call
-fields_call extended [] fs = None
-fields_call extended (letter ∷ []) fs = letter_call extended letter (numbers_of fs)
-fields_call extended (letter ∷ b ∷ bs) fs = None
-
 unfoldable pub call_of : Bool → List ℕ → Option Call
-call_of extended line = fields_call extended (fields_of line).first (fields_of line).later
+call_of extended line = letter_line (numbers_call extended) line

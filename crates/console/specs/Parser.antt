@@ -1,24 +1,19 @@
 -- No part of 01, but how a line of calls is read byte by byte: what the parser holds after some bytes of a line (`parsed_of`), and what a byte does then, by the
 -- definition of lines.
-use Rattle.std.specs.Prelude.{ℕ, Bool, true, false, Option, None, Some}
-use Rattle.std.specs.Option.{option_zip}
-use mathlib.Core.List.{List, [], ◌∷◌, ◌++◌, map}
+use Rattle.std.specs.Prelude.{ℕ, Bool, true, false, Option, None}
+use mathlib.Core.List.{List, [], ◌∷◌, ◌++◌}
 use Rattle.console.specs.declared.lines.Call.{Call}
 use Rattle.console.specs.declared.lines.Parser.{Parser}
 use Rattle.console.specs.Lines.{is, numbers_call}
-use Rattle.console.specs.Fields.{least, lettered, pushed, numbers, read_of}
+use Rattle.console.specs.Fields.{lettered, pushed, read_of, asked_by_letter}
 
 -- after the bytes of a line so far
 abbrev pub parsed_of : Bool → List ℕ → Parser
 parsed_of extended line = record { extended = extended; line = read_of 3 lettered line }
 
--- the call of a letter and its numbers, as they are told: a number beyond 64 bits counts as the least that is
-abbrev pub told_call : Bool → Option (ℕ × List (Option ℕ)) → Option Call
-told_call extended None = None
-told_call extended (Some (letter, ns)) = numbers_call extended letter (map least ns)
-
-unfoldable pub answer_of : Parser → Option Call
-answer_of p = told_call p.extended (option_zip p.line.letter (numbers p.line))
+-- the call, if the line ends there
+abbrev pub answer_of : Parser → Option Call
+answer_of p = asked_by_letter (numbers_call p.extended) p.line
 
 -- a byte more: the line feed ends the line, and the next begins
 abbrev pub pushed_if : (feed : Bool) → Parser → ℕ → Parser

@@ -41,10 +41,11 @@ fn with_digits(rt: &(impl Env + Files), errors: &impl Print) {
 
 fn with_rate(rt: &(impl Env + Files), errors: &impl Print, digits: &[u8]) {
     if words::all_dialled(digits) {
-        let rate = words::rate(rt);
-        match plan::plan_refusal(digits, rate) {
-            Ok(()) => with_file(rt, errors, digits, rate),
-            Err(_) => words::no_rate(errors, b"earpiece"),
+        match words::rate(rt) {
+            Some(rate) if plan::plan_refusal(digits, rate).is_ok() => {
+                with_file(rt, errors, digits, rate);
+            }
+            _ => words::no_rate(errors, b"earpiece"),
         }
         return;
     }

@@ -1,4 +1,6 @@
 // The programs' arguments, and what a program says where one is not accepted.
+use console::fields;
+use console::fields::Fields;
 use std::env::Env;
 use std::io;
 use text::Page;
@@ -108,29 +110,20 @@ pub fn all_dialled(word: &[u8]) -> bool {
     digits.len == word.len()
 }
 
-// The second argument as a rate; 0, which is no rate, where it is none.
-pub fn rate(words: &impl Env) -> u32 {
+// The second argument as a rate: the number of a word of decimal digits, or as much as the type takes; None where it is none.
+pub fn rate(words: &impl Env) -> Option<u32> {
     let mut word = [0u8; 64];
-    match words.arg(2, &mut word) {
-        Ok(count) => rate_of(&word[..count]),
-        Err(_) => 0,
-    }
+    let count = words.arg(2, &mut word).ok()?;
+    rate_of(&word[..count])
 }
 
-// The number of a word of decimal digits, or as much as the type takes.
-fn rate_of(word: &[u8]) -> u32 {
-    if word.is_empty() {
-        return 0;
-    }
-    let mut rate = 0u32;
+fn rate_of(word: &[u8]) -> Option<u32> {
+    let mut line = Fields::<1>::numbered();
     for byte in word {
-        match *byte {
-            b'0'..=b'9' => {
-                let digit = u32::from(*byte - b'0');
-                rate = rate.saturating_mul(10).saturating_add(digit);
-            }
-            _ => return 0,
-        }
+        line.push(*byte);
     }
-    rate
+    match line.numbers()? {
+        [rate] => Some(fields::rate(*rate)),
+        _ => None,
+    }
 }
