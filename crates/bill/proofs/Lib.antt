@@ -1,3 +1,4 @@
 -- What the functions' proofs cite, and lines that are computed.
+pub mod Asked
 pub mod Examples
 pub mod Reading

@@ -1,54 +1,32 @@
--- The lines of the program `bill`: milliseconds, and perhaps a comma and the start, in decimal digits. A line is read byte by byte, and a number too long
--- for 64 bits is the largest of them, which is above either limit.
-use Prim.Native.Char.{code}
-use Rattle.std.specs.Prelude.{ℕ, ◌+◌, ◌-◌, ◌*◌, ◌^◌, min, Bool, true, false, ◌||◌}
-use mathlib.Core.List.{List, foldl}
-use Rattle.console.specs.Lines.{is, is_digit}
+-- The lines of the program `bill`: milliseconds, and perhaps a comma and the start, in decimal digits. A number too long for 64 bits is the largest of
+-- them, which is above either limit. What a field and its number are, the specs of `console` say.
+use Rattle.std.specs.Prelude.{ℕ, ◌-◌, ◌^◌, min, List, [], ◌∷◌, Option, None, Some}
+use Rattle.console.specs.Lines.{numbers_line}
+use Rattle.console.specs.Fields.{numbered, pushed, read_of, asked_by_numbers}
 use Rattle.bill.specs.declared.lines.Line.{Line}
 use Rattle.bill.specs.declared.lines.Asked.{Asked}
-use Rattle.bill.specs.declared.lines.Asked.TheVariants.{Time, From, Other}
+use Rattle.bill.specs.declared.lines.Asked.TheVariants.{Time, From}
 
 abbrev pub largest : ℕ
 largest = 2 ^ 64 - 1
 
--- before the line's first byte
-abbrev pub fresh_line : Line
-fresh_line = record { before = 0; number = 0; comma = false; empty = true; other = false }
+-- by how many numbers there are
+unfoldable pub numbers_asked : List ℕ → Option Asked
+numbers_asked [] = None
+numbers_asked (ms ∷ []) = Some (Time (min ms largest))
+numbers_asked (ms ∷ start ∷ []) = Some (From (min ms largest) (min start largest))
+numbers_asked (ms ∷ start ∷ n ∷ ns) = None
 
--- a digit
-abbrev pub with_digit : Line → ℕ → Line
-with_digit l d = record { before = l.before; number = min (l.number * 10 + d) largest; comma = l.comma; empty = false; other = l.other }
+-- a line: its fields are numbers
+unfoldable pub asked_of : List ℕ → Option Asked
+asked_of line = numbers_line numbers_asked line
 
--- a byte that makes the line none
-abbrev pub spoiled : Line → Line
-spoiled l = record { before = l.before; number = l.number; comma = l.comma; empty = l.empty; other = true }
+-- ---- how it is read: after the bytes of a line so far, after one byte more, and what the line asks for if it ends there
+abbrev pub line_of : List ℕ → Line
+line_of line = record { fields = read_of 2 numbered line }
 
--- a comma, which comes after a number and once
-abbrev pub comma_if : (wrong : Bool) → Line → Line
-comma_if true l = spoiled l
-comma_if false l = record { before = l.number; number = 0; comma = true; empty = true; other = l.other }
+abbrev pub next_of : Line → ℕ → Line
+next_of l b = record { fields = pushed 2 l.fields b }
 
-unfoldable pub with_comma : Line → Line
-with_comma l = comma_if (l.empty || l.comma) l
-
--- one byte more
-abbrev pub next_if : (comma digit : Bool) → Line → ℕ → Line
-next_if true digit l b = with_comma l
-next_if false true l b = with_digit l (b - code "0")
-next_if false false l b = spoiled l
-
-unfoldable pub next_of : Line → ℕ → Line
-next_of l b = next_if (is "," b) (is_digit b) l b
-
--- all bytes of a line
-unfoldable pub line_of : List ℕ → Line
-line_of bytes = foldl next_of fresh_line bytes
-
--- what the line asks for; a line that is none, or whose last number has no digit, asks for nothing
-abbrev pub asked_if : (none comma : Bool) → Line → Asked
-asked_if true comma l = Other
-asked_if false true l = From l.before l.number
-asked_if false false l = Time l.number
-
-unfoldable pub asked_of : Line → Asked
-asked_of l = asked_if (l.other || l.empty) l.comma l
+abbrev pub answer_of : Line → Option Asked
+answer_of l = asked_by_numbers numbers_asked l.fields

@@ -1,5 +1,5 @@
 -- What the program `bill` prints for a line: `refusal,units,pence`, in decimal, or nothing.
-use Rattle.std.specs.Prelude.{ℕ, Result}
+use Rattle.std.specs.Prelude.{ℕ, Result, Option, None, Some}
 use Rattle.refusal.specs.declared.Refusal.{Refusal}
 use Rattle.refusal.specs.Refusal.{answer_number}
 use Rattle.ascii.specs.Ascii.{ascii}
@@ -9,7 +9,7 @@ use Rattle.tariff.specs.declared.Bill.{Bill}
 use Rattle.tariff.specs.Tariff.{told, bill_of}
 use Rattle.tariff.specs.Hours.{bill_from}
 use Rattle.bill.specs.declared.lines.Asked.{Asked}
-use Rattle.bill.specs.declared.lines.Asked.TheVariants.{Time, From, Other}
+use Rattle.bill.specs.declared.lines.Asked.TheVariants.{Time, From}
 
 -- a number, and the comma after it
 abbrev pub numbered : Page → ℕ → Page
@@ -19,7 +19,7 @@ numbered p n = add_of (add_of p (decimal_of n)) (ascii ",")
 unfoldable pub billed : Page → Result Bill Refusal → Page
 billed p answer = add_of (add_of (numbered (numbered p (answer_number answer)) (told answer).units) (decimal_of (told answer).pence)) (ascii "\n")
 
-abbrev pub answered : Page → Asked → Page
-answered p (Time ms) = billed p (bill_of ms)
-answered p (From ms start) = billed p (bill_from ms start)
-answered p Other = p
+abbrev pub answered : Page → Option Asked → Page
+answered p (Some (Time ms)) = billed p (bill_of ms)
+answered p (Some (From ms start)) = billed p (bill_from ms start)
+answered p None = p

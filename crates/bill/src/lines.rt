@@ -1,19 +1,15 @@
 // A reader of the lines of `bill`, one byte at a time: a line may be as long as it likes, and may
 // come in any pieces.
-ghost use Rattle.std.specs.Prelude.{◌≡◌, ◌+◌, ◌*◌, min};
-ghost use Rattle.bill.specs.Lines.{largest, fresh_line, with_digit, spoiled, with_comma, next_of, asked_of};
+ghost use Rattle.std.specs.Prelude.{◌≡◌, List, [], ◌∷◌, ◌++◌, ℕ, min, map};
+ghost use Rattle.console.specs.Fields.{least};
+ghost use Rattle.bill.specs.Lines.{largest, line_of, next_of, answer_of, asked_of, numbers_asked};
+
+use console::fields::Fields;
 
 // What the bytes of a line so far come to.
-#[derive(Clone, Copy)]
+#[derive(Drop)]
 pub struct Line {
-    // the number before the comma, and the present one, each at most the largest of 64 bits
-    before: u64,
-    number: u64,
-    comma: bool,
-    // the present number has no digit yet
-    empty: bool,
-    // the line asks for nothing, whatever follows
-    other: bool,
+    fields: Fields<2>,
 }
 
 #[derive(Clone, Copy)]
@@ -22,97 +18,52 @@ pub enum Asked {
     Time(u64),
     // and from this second of the week on
     From { ms: u64, start: u64 },
-    Other,
 }
 
 impl Line {
     // Before the first byte of a line.
     pub fn new() -> Self
-        ensures { result ≡ fresh_line }
+        ensures { result ≡ line_of [] }
     {
         Line {
-            before: 0,
-            number: 0,
-            comma: false,
-            empty: true,
-            other: false,
+            fields: Fields::numbered(),
         }
     }
 
     // One byte more, which is no line feed.
-    pub fn next(self, byte: u8) -> Self
-        ensures { result ≡ next_of self byte }
+    pub fn push(&mut self, byte: u8)
+        ensures value { self.new ≡ next_of self.old byte }
+        ensures of_line { (line : List ℕ) → self.old ≡ line_of line → self.new ≡ line_of (line ++ byte ∷ []) }
     {
-        if byte == b',' {
-            return self.comma();
-        }
-        if byte < b'0' {
-            return self.spoiled();
-        }
-        if byte <= b'9' {
-            return self.digit(byte - b'0');
-        }
-        self.spoiled()
+        self.fields.push(byte);
     }
 
     // The line ends here: at its line feed, or at the end of the input.
-    pub fn asked(self) -> Asked
-        ensures { result ≡ asked_of self }
+    pub fn asked(&self) -> Option<Asked>
+        ensures value { result ≡ answer_of self.now }
+        ensures of_line { (line : List ℕ) → self.now ≡ line_of line → result ≡ asked_of line }
     {
-        if self.other | self.empty {
-            return Asked::Other;
-        }
-        if self.comma {
-            return Asked::From {
-                ms: self.before,
-                start: self.number,
-            };
-        }
-        Asked::Time(self.number)
-    }
-
-    fn comma(self) -> Self
-        ensures { result ≡ with_comma self }
-    {
-        if self.empty | self.comma {
-            return self.spoiled();
-        }
-        Line {
-            before: self.number,
-            number: 0,
-            comma: true,
-            empty: true,
-            ..self
-        }
-    }
-
-    fn digit(self, digit: u8) -> Self
-        ensures { result ≡ with_digit self digit }
-    {
-        Line {
-            number: grown(self.number, digit),
-            empty: false,
-            ..self
-        }
-    }
-
-    fn spoiled(self) -> Self
-        ensures { result ≡ spoiled self }
-    {
-        Line {
-            other: true,
-            ..self
-        }
+        numbers_asked(self.fields.numbers()?)
     }
 }
 
-// The number with one digit more, or the largest of 64 bits.
-fn grown(number: u64, digit: u8) -> u64
-    ensures { result ≡ min (number * 10 + digit) largest }
+// What the numbers ask for.
+fn numbers_asked(numbers: &[Option<u64>]) -> Option<Asked>
+    ensures { result ≡ numbers_asked (map least numbers.now) }
 {
-    let d = digit as u64;
-    if number <= (u64::MAX - d) / 10 {
-        return number * 10 + d;
+    match numbers {
+        [ms] => Some(Asked::Time(held(*ms))),
+        [ms, start] => Some(Asked::From {
+            ms: held(*ms),
+            start: held(*start),
+        }),
+        _ => None,
     }
-    u64::MAX
+}
+
+// The number, or the largest of 64 bits.
+fn held(number: Option<u64>) -> u64
+    ensures { result ≡ min (least number) largest }
+{
+    number.unwrap_or(u64::MAX)
 }

@@ -33,18 +33,16 @@ impl Program for Desk {
     }
 
     fn take(&mut self, byte: u8, answers: &mut Answers) {
-        let line = self.line;
         if byte == b'\n' {
-            page::put_answer(answers, line.asked());
+            page::put_answer(answers, self.line.asked());
             self.line = Line::new();
         } else {
-            self.line = line.next(byte);
+            self.line.push(byte);
         }
     }
 
     // A last line may be without its line feed.
     fn finish(&mut self, answers: &mut Answers) {
-        let line = self.line;
-        page::put_answer(answers, line.asked());
+        page::put_answer(answers, self.line.asked());
     }
 }

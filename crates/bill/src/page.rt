@@ -11,13 +11,13 @@ use tariff::Bill;
 const NOTHING: Bill = Bill { units: 0, pence: 0 };
 
 // What the call costs, or nothing where the line asks for nothing.
-pub fn put_answer(answers: &mut Answers, asked: Asked)
+pub fn put_answer(answers: &mut Answers, asked: Option<Asked>)
     ensures { answers.new ≡ answered answers.old asked }
 {
     match asked {
-        Asked::Time(ms) => put_bill(answers, tariff::charge(ms)),
-        Asked::From { ms, start } => put_bill(answers, tariff::charge_from(ms, start)),
-        Asked::Other => {}
+        Some(Asked::Time(ms)) => put_bill(answers, tariff::charge(ms)),
+        Some(Asked::From { ms, start }) => put_bill(answers, tariff::charge_from(ms, start)),
+        None => {}
     }
 }
 

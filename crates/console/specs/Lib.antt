@@ -1,3 +1,4 @@
 -- Definitions that the contracts cite.
 pub mod Lines
+pub mod Fields
 pub mod Parser

@@ -118,7 +118,11 @@ shown_after bytes places samples kept read s (call.Bits room) = bits_shown s rea
 shown_after bytes places samples kept read s call.Frame = frame_shown (eqb (length kept) 10) s (unframe_of (marks_of kept))
 shown_after bytes places samples kept read s call.Key = lit_shown s
 shown_after bytes places samples kept read s (call.Queued byte) = queued_shown s (byte_queued s byte)
-shown_after bytes places samples kept read s call.Other = nothing_shown s
+
+-- of a line that may be a call: other lines leave the set and print nothing
+abbrev pub shown_line : (bytes places samples : ℕ) (kept : List ℕ) (read : Reading) → Set → Option Call → Shown
+shown_line bytes places samples kept read s (Some call) = shown_after bytes places samples kept read s call
+shown_line bytes places samples kept read s None = nothing_shown s
 
 -- the reader that is kept: B has it read the string that is kept, with room for so many bytes; R sets it back; no other line changes it
 abbrev pub read_after : (bytes : ℕ) (kept : List ℕ) → Deframer → Call → Read
@@ -134,7 +138,10 @@ read_after bytes kept p (call.String carrier outbox codes) = stopped p
 read_after bytes kept p call.Frame = stopped p
 read_after bytes kept p call.Key = stopped p
 read_after bytes kept p (call.Queued byte) = stopped p
-read_after bytes kept p call.Other = stopped p
+
+abbrev pub read_line : (bytes : ℕ) (kept : List ℕ) → Deframer → Option Call → Read
+read_line bytes kept p (Some call) = read_after bytes kept p call
+read_line bytes kept p None = stopped p
 
 -- the string that is kept, with room for so many bytes: M adds a byte, or passes it over; S, B and U forget it, declined or not; no other line
 -- changes it
@@ -154,7 +161,10 @@ kept_after room kept (call.Bits n) = []
 kept_after room kept call.Frame = []
 kept_after room kept call.Key = kept
 kept_after room kept (call.Queued byte) = kept
-kept_after room kept call.Other = kept
+
+abbrev pub kept_line : ℕ → List ℕ → Option Call → List ℕ
+kept_line room kept (Some call) = kept_after room kept call
+kept_line room kept None = kept
 
 -- the key that is kept: that which the last fill answered; none after R
 abbrev pub lit_after : Option Key → Second → Option Key

@@ -5,9 +5,9 @@
 ghost use Rattle.std.specs.Prelude.{◌≡◌, false};
 ghost use Rattle.deframe.specs.Read.{answer_of};
 ghost use Rattle.text.specs.Page.{add_of};
-ghost use Rattle.panel.specs.Wall.{read_after, shown_after, kept_after, lit_left, line_of};
+ghost use Rattle.panel.specs.Wall.{read_line, shown_line, kept_line, lit_left, line_of};
 
-use console::lines::{Call, Parser, Pushed};
+use console::lines::{Call, Parser};
 use console::stream::{Answers, Program};
 use deframe::Deframer;
 use keys::Key;
@@ -26,8 +26,6 @@ mod shown;
 struct Panel {
     set: Set,
     parser: Parser,
-    // `tap --ext`: longer fills, an outbox's length on a T line, and further lines
-    extended: bool,
     // `tap`: a second line for each answer
     bits: bool,
     // `tap --ext`: the string that it keeps
@@ -56,20 +54,14 @@ impl Program for Panel {
     }
 
     fn take(&mut self, byte: u8, answers: &mut Answers) {
-        let parser = self.parser;
-        match parser.push(byte) {
-            Pushed::More(next) => self.parser = next,
-            Pushed::Line(call) => {
-                self.perform(call, answers);
-                self.parser = Parser::new(self.extended);
-            }
-        }
+        let call = self.parser.push(byte);
+        self.perform(call, answers);
     }
 
     // A last line may be without its line feed.
     fn finish(&mut self, answers: &mut Answers) {
-        let parser = self.parser;
-        self.perform(parser.finish(), answers);
+        let call = self.parser.finish();
+        self.perform(call, answers);
     }
 }
 
@@ -80,7 +72,6 @@ impl Panel {
         Panel {
             set: made.set,
             parser: Parser::new(extended),
-            extended,
             bits,
             string: Page::new(),
             reader: Deframer::new(),
@@ -89,14 +80,17 @@ impl Panel {
         }
     }
 
-    // What a line leaves: the set after its call, the string, the reader and the key that are kept, and, without `tap`'s second line, 01's line on the page.
-    fn perform(&mut self, call: Call, answers: &mut Answers)
-        ensures set_after { self.new.set ≡ (shown_after 1200 1200 70000 self.old.string.text (answer_of (read_after 1200 self.old.string.text self.old.reader call)) self.old.set call).set }
-        ensures reader_after { self.new.reader ≡ (read_after 1200 self.old.string.text self.old.reader call).place }
-        ensures string_after { self.new.string.text ≡ kept_after 300 self.old.string.text call }
-        ensures lit_after { self.new.lit ≡ lit_left self.old.lit (shown_after 1200 1200 70000 self.old.string.text (answer_of (read_after 1200 self.old.string.text self.old.reader call)) self.old.set call).told }
-        ensures page_after { self.old.bits ≡ false → answers.new ≡ add_of answers.old (line_of (shown_after 1200 1200 70000 self.old.string.text (answer_of (read_after 1200 self.old.string.text self.old.reader call)) self.old.set call)) }
+    // What a line leaves, where it is a call: the set after it, the string, the reader and the key that are kept, and, without `tap`'s second line, 01's line on the page.
+    fn perform(&mut self, call: Option<Call>, answers: &mut Answers)
+        ensures set_after { self.new.set ≡ (shown_line 1200 1200 70000 self.old.string.text (answer_of (read_line 1200 self.old.string.text self.old.reader call)) self.old.set call).set }
+        ensures reader_after { self.new.reader ≡ (read_line 1200 self.old.string.text self.old.reader call).place }
+        ensures string_after { self.new.string.text ≡ kept_line 300 self.old.string.text call }
+        ensures lit_after { self.new.lit ≡ lit_left self.old.lit (shown_line 1200 1200 70000 self.old.string.text (answer_of (read_line 1200 self.old.string.text self.old.reader call)) self.old.set call).told }
+        ensures page_after { self.old.bits ≡ false → answers.new ≡ add_of answers.old (line_of (shown_line 1200 1200 70000 self.old.string.text (answer_of (read_line 1200 self.old.string.text self.old.reader call)) self.old.set call)) }
     {
+        let Some(call) = call else {
+            return;
+        };
         let mut outbox = [0u8; 1200];
         let mut codes = [0u8; 1200];
         let string = self.string.text();

@@ -87,7 +87,6 @@ pub fn after(
         Call::Frame => framed(set, string),
         Call::Key => lit(set),
         Call::Queued(byte) => queued(set, byte),
-        Call::Other => nothing(set),
     }
 }
 

@@ -1,4 +1,6 @@
 // The programs' words, and what a program says where one is not accepted.
+use console::fields;
+use console::fields::Fields;
 use schedule::Rate;
 use std::env::{Env, FillError};
 use std::fmt;
@@ -20,7 +22,7 @@ impl Words {
         if !all_dialled(digits.text()) {
             return Err(Wrong::NoKey);
         }
-        let rate = Rate::new(rate(words)).ok_or(Wrong::NoRate)?;
+        let rate = rate(words).and_then(Rate::new).ok_or(Wrong::NoRate)?;
         let path = word::<4096>(words, 3).map_err(|_| Wrong::LongPath)?;
         Ok(Words { digits, rate, path })
     }
@@ -76,29 +78,20 @@ fn all_dialled(word: &[u8]) -> bool {
     digits.len == word.len()
 }
 
-// The second argument as a rate; 0, which is no rate, where it is none.
-fn rate(words: &impl Env) -> u32 {
+// The second argument as a rate: the number of a word of decimal digits, or as much as the type takes; None where it is none.
+fn rate(words: &impl Env) -> Option<u32> {
     let mut word = [0u8; 64];
-    match words.arg(2, &mut word) {
-        Ok(count) => rate_of(&word[..count]),
-        Err(_) => 0,
-    }
+    let count = words.arg(2, &mut word).ok()?;
+    rate_of(&word[..count])
 }
 
-// The number of a word of decimal digits, or as much as the type takes.
-fn rate_of(word: &[u8]) -> u32 {
-    if word.is_empty() {
-        return 0;
-    }
-    let mut rate = 0u32;
+fn rate_of(word: &[u8]) -> Option<u32> {
+    let mut line = Fields::<1>::numbered();
     for byte in word {
-        match *byte {
-            b'0'..=b'9' => {
-                let digit = u32::from(*byte - b'0');
-                rate = rate.saturating_mul(10).saturating_add(digit);
-            }
-            _ => return 0,
-        }
+        line.push(*byte);
     }
-    rate
+    match line.numbers()? {
+        [rate] => Some(fields::rate(*rate)),
+        _ => None,
+    }
 }

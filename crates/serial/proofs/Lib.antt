@@ -1,4 +1,4 @@
 -- What the functions' proofs cite, and lines that are computed.
-pub mod Numbers
+pub mod Asked
 pub mod Put
 pub mod Examples

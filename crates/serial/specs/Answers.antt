@@ -1,6 +1,6 @@
 -- The program `serial`: the chip after a line's call, and what is printed for the line: `refusal,value,mode,state,stage,m,sent`, the value read (0 else), the
 -- bytes sent in hexadecimal or `-`; nothing for another line.
-use Rattle.std.specs.Prelude.{ℕ, min, List, [], ◌∷◌, length, take, replicate, Result}
+use Rattle.std.specs.Prelude.{ℕ, min, List, [], ◌∷◌, length, take, replicate, Result, Option, None, Some}
 use Rattle.ascii.specs.Ascii.{ascii}
 use Rattle.text.specs.Page.{Page, add_of}
 use Rattle.text.specs.Digits.{decimal_of, last_digits}
@@ -45,13 +45,13 @@ told p c number value sent =
 abbrev pub lent_of : (outbox : ℕ) → List ℕ
 lent_of n = take n (replicate 16 0)
 
-abbrev pub chip_by : (room : ℕ) → Chip → Asked → Chip
-chip_by room c (asked.Rate r) = (uart.started r).chip
-chip_by room c (asked.Read address) = uart.chip_read c (uart.read c address)
-chip_by room c (asked.Write address value carrier n) = uart.chip_written c (uart.write c address value carrier (length (lent_of n)))
-chip_by room c (asked.Lapse ns carrier) = uart.chip_left c (uart.lapsed c ns carrier)
-chip_by room c (asked.Fill n) = uart.chip_filled c (uart.filled c (min n room))
-chip_by room c asked.Other = c
+abbrev pub chip_by : (room : ℕ) → Chip → Option Asked → Chip
+chip_by room c (Some (asked.Rate r)) = (uart.started r).chip
+chip_by room c (Some (asked.Read address)) = uart.chip_read c (uart.read c address)
+chip_by room c (Some (asked.Write address value carrier n)) = uart.chip_written c (uart.write c address value carrier (length (lent_of n)))
+chip_by room c (Some (asked.Lapse ns carrier)) = uart.chip_left c (uart.lapsed c ns carrier)
+chip_by room c (Some (asked.Fill n)) = uart.chip_filled c (uart.filled c (min n room))
+chip_by room c None = c
 
 abbrev pub start_told : Page → Start → Page
 start_told p a = told p a.chip (answer_number a.checked) 0 []
@@ -68,11 +68,11 @@ lapse_told p c a = told p (uart.chip_left c a) (answer_number a) 0 []
 abbrev pub fill_told : Page → Chip → Result Fill Refusal → Page
 fill_told p c a = told p (uart.chip_filled c a) (answer_number a) 0 []
 
-abbrev pub page_by : (room : ℕ) → Page → Chip → Asked → Page
-page_by room p c (asked.Rate r) = start_told p (uart.started r)
-page_by room p c (asked.Read address) = read_told p c (uart.read c address)
-page_by room p c (asked.Write address value carrier n) =
+abbrev pub page_by : (room : ℕ) → Page → Chip → Option Asked → Page
+page_by room p c (Some (asked.Rate r)) = start_told p (uart.started r)
+page_by room p c (Some (asked.Read address)) = read_told p c (uart.read c address)
+page_by room p c (Some (asked.Write address value carrier n)) =
     write_told p c (uart.write c address value carrier (length (lent_of n))) (uart.outbox c address value (lent_of n))
-page_by room p c (asked.Lapse ns carrier) = lapse_told p c (uart.lapsed c ns carrier)
-page_by room p c (asked.Fill n) = fill_told p c (uart.filled c (min n room))
-page_by room p c asked.Other = p
+page_by room p c (Some (asked.Lapse ns carrier)) = lapse_told p c (uart.lapsed c ns carrier)
+page_by room p c (Some (asked.Fill n)) = fill_told p c (uart.filled c (min n room))
+page_by room p c None = p

@@ -11,22 +11,24 @@ use refusal::Refusal;
 use uart::Chip;
 
 // Answers the chip after the line.
-pub fn after(chip: Chip, asked: Asked, samples: &mut [f32], answers: &mut Answers) -> Chip
+pub fn after(chip: Chip, asked: Option<Asked>, samples: &mut [f32], answers: &mut Answers) -> Chip
     ensures chip_value { result ≡ chip_by (length samples.old) chip asked }
     ensures page_after { answers.new ≡ page_by (length samples.old) answers.old chip asked }
 {
     match asked {
-        Asked::Rate(rate) => start(rate, answers),
-        Asked::Read(address) => read(chip, address, answers),
-        Asked::Write {
-            address,
-            value,
-            carrier,
-            outbox,
-        } => write(chip, address, value, carrier, outbox, answers),
-        Asked::Lapse { ns, carrier } => lapse(chip, ns, carrier, answers),
-        Asked::Fill(n) => fill(chip, n, samples, answers),
-        Asked::Other => chip,
+        Some(Asked::Rate(rate)) => start(rate, answers),
+        Some(Asked::Read(address)) => read(chip, address, answers),
+        Some(
+            Asked::Write {
+                address,
+                value,
+                carrier,
+                outbox,
+            },
+        ) => write(chip, address, value, carrier, outbox, answers),
+        Some(Asked::Lapse { ns, carrier }) => lapse(chip, ns, carrier, answers),
+        Some(Asked::Fill(n)) => fill(chip, n, samples, answers),
+        None => chip,
     }
 }
 

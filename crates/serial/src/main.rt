@@ -46,25 +46,25 @@ impl Program for Desk {
     }
 
     fn take(&mut self, byte: u8, answers: &mut Answers) {
-        let line = self.line;
         if byte == b'\n' {
-            self.perform(line.asked(), answers);
+            let asked = self.line.asked();
+            self.perform(asked, answers);
             self.line = Line::new();
         } else {
-            self.line = line.next(byte);
+            self.line.push(byte);
         }
     }
 
     // A last line may be without its line feed.
     fn finish(&mut self, answers: &mut Answers) {
-        let line = self.line;
-        self.perform(line.asked(), answers);
+        let asked = self.line.asked();
+        self.perform(asked, answers);
     }
 }
 
 impl Desk {
     // What a line leaves: the chip after its call, and the answer on the page.
-    fn perform(&mut self, asked: Asked, answers: &mut Answers)
+    fn perform(&mut self, asked: Option<Asked>, answers: &mut Answers)
         ensures chip_after { self.new.chip ≡ chip_by 16384 self.old.chip asked }
         ensures page_after { answers.new ≡ page_by 16384 answers.old self.old.chip asked }
     {

@@ -36,6 +36,3 @@ returns-in-Key c = rw c.in-Key.is c.lit.ensures
 
 pub returns-in-Queued : goal.returns-in-Queued
 returns-in-Queued c = rw c.in-Queued.is c.queued.ensures
-
-pub returns-in-Other : goal.returns-in-Other
-returns-in-Other c = rw c.in-Other.is c.nothing-in-Other.ensures

@@ -1,15 +1,13 @@
--- `Line::asked` meets its contract: by whether the line is none, or empty, and by its comma. Assumes nothing.
-use Rattle.bill.specs.Lines.{asked_of}
+-- `Line::asked` meets its contract: what the numbers ask for, and what that says of a line is `answered`. Assumes nothing.
+use mathlib.Core.Path.{◌≡◌}
+use Rattle.bill.specs.Lines.{answer_of}
+use Rattle.bill.proofs.Asked.{answered}
 use Rattle.bill.proofs.lines.Line.asked.Goals as goal
 
-pub returns-then-self : goal.returns-then-self
-unfolding asked_of
-returns-then-self c = rw c.if-self.true
-
-pub returns-then-self-2 : goal.returns-then-self-2
-unfolding asked_of
-returns-then-self-2 c = rw (c.if-self.false, c.if-self-2.true)
+pub returns-in_err-numbers : goal.returns-in_err-numbers
+returns-in_err-numbers c =
+    let v : c.from_residual.result ≡ answer_of c.args.self.now = rw (← c.numbers.ensures, c.in_err-numbers.was) c.from_residual.ensures in record { value = v; of_line = answered _ _ v }
 
 pub returns : goal.returns
-unfolding asked_of
-returns c = rw (c.if-self.false, c.if-self-2.false)
+returns c =
+    let v : c.numbers_asked.result ≡ answer_of c.args.self.now = rw (← c.numbers.ensures, c.in_ok-numbers.was) c.numbers_asked.ensures in record { value = v; of_line = answered _ _ v }
