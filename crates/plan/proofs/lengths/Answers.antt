@@ -1,13 +1,11 @@
 -- `plan::lengths` meets its contract: each count is what its clock ensures, and fits by the stage's range. Assumes nothing.
-use mathlib.Core.Path.{refl, sym, subst, ◌∙◌}
+use mathlib.Core.Path.{refl, sym, subst}
 use native.Mathlib.Omega.{arith}
 use lib.Dec.{lit<, lit≤}
 use Rattle.schedule.specs.Symbols.{phase_after, done_after}
-use Rattle.schedule.proofs.Constants.{three, four}
-use Rattle.schedule.proofs.Lengths.{click-range, dial-tone-range, dialling-range, ringback-range, bits_range, ansam-range, silence-range}
+use Rattle.schedule.proofs.Constants.{three}
+use Rattle.schedule.proofs.Lengths.{bits_range, ansam-range, silence-range}
 use Rattle.plan.proofs.Bits.{Fewer, fewer-before, clock-number, clock-whole}
-use Rattle.plan.proofs.Dialled.{call-few}
-use Rattle.plan.proofs.Counts.{dialling-is}
 use Rattle.plan.proofs.lengths.Goals as goal
 
 pub overflow_cast-ansam : goal.overflow_cast-ansam

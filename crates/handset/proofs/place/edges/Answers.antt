@@ -1,5 +1,5 @@
 -- `place::edges` meets its contract: each count is the call's, and the sums fit by the stages' ranges. Assumes nothing.
-use Rattle.std.proofs.Common.{ℕ, ◌+◌, ◌≤◌, length, refl, arith}
+use Rattle.std.proofs.Common.{◌+◌, ◌≤◌, length, refl, arith}
 use Rattle.math.specs.Float.{one}
 use Rattle.schedule.specs.Time.{samples_in}
 use Rattle.schedule.specs.Length.{click_time, ringback_time, dialling_length}
