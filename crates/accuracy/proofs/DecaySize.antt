@@ -79,9 +79,6 @@ decay-share : (u : Float) → Share (decay u)
 unfolding decay
 decay-share u = go (le float.zero u && lt u decay_end) refl
   where
-    far : (n d : ℕ) → n < 8 * d → n ≤ 256 * d
-    far n d h = omega arith
-
     inside : (u : Float) → T (le float.zero u && lt u decay_end) → Share (falls (div binary64 u decay_scale))
     inside nan h = absurd (nan-out decay_end h)
     inside (inf s) h = absurd (inf-out decay_end 8 1 (end_is 1) s h)
@@ -96,7 +93,7 @@ decay-share u = go (le float.zero u && lt u decay_end) refl
         let l : n < 8 * d = ltb→lt n (8 * d) (subst T (lt_at y decay_end n (8 * d) d dp (refl, refl) (end_is d)) (and_r (le float.zero y) (lt y decay_end) h)) in
         share-falls (div binary64 y decay_scale)
         (subst Share (sym (div-by binary64 y decay_scale n (256 * d) d dp (mul-pos (lit< tt) dp) (refl, refl) (scale-is d)))
-        (at_most n (256 * d) 1 1074 (mul-pos (lit< tt) dp) (lit< tt) (lit< tt) (le_trans (mul-le-mul_right (2 ^ 1074) (far n d l)) (le_of_eq (mul_comm (256 * d) (2 ^ 1074))))))
+        (at_most n (256 * d) 1 1074 (mul-pos (lit< tt) dp) (lit< tt) (lit< tt) (le_trans (mul-le-mul_right (2 ^ 1074) (omega arith)) (le_of_eq (mul_comm (256 * d) (2 ^ 1074))))))
 
     go : (t : Bool) → (le float.zero u && lt u decay_end) ≡ t → Share (cond t (falls (div binary64 u decay_scale)) float.zero)
     go true e = inside u (subst T (sym e) tt)

@@ -1,7 +1,7 @@
 -- The buffer of a fill that is not declined: in Dialling samples that follow the set's state, in Connected the sender's. They lie between -0.92 and
 -- 0.92 whatever state and sender these are. Assumes nothing.
 use Prim.Native.Nat.{ℕ, zero, suc}
-use mathlib.Core.Path.{◌≡◌, refl}
+use mathlib.Core.Path.{◌≡◌}
 use mathlib.Core.Bool.{true}
 use mathlib.Core.List.{List}
 use lib.ListN.{length}
@@ -12,9 +12,10 @@ use Rattle.sender.specs.Wave as sender
 use Rattle.session.specs.declared.SessionState.TheVariants.{Dialling, Connected}
 use Rattle.session.specs.Session.{state_number, digits_held, written}
 use Rattle.set.specs.declared.Set.{Set}
-use Rattle.std.specs.Prelude.{Ok, Err, IsOk}
-use Rattle.set.specs.Refusals.{Checked, accepted, answered}
+use Rattle.std.specs.Prelude.{IsOk}
+use Rattle.set.specs.Refusals.{accepted}
 use Rattle.set.specs.Set.{fill_cause, fill, buffer}
+use Rattle.set.proofs.Accepted.{taken}
 use Rattle.accuracy.specs.Level.{AllInLevel}
 use Rattle.accuracy.proofs.Level.{narrowed-level, bit-size}
 use Rattle.accuracy.proofs.Overture.{InWord, samples-level}
@@ -32,11 +33,6 @@ module _ (s : Set) (was : List Float) (taken : accepted (fill_cause s (length wa
   pub up-level : s.session.state ≡ Connected → AllInLevel (buffer s was)
   unfolding buffer state_number
   up-level up = rw (taken, up) (sender-level (length was) s.sending)
-
-taken : {X : Type 0} (cause : Checked) (answer : X) → IsOk (answered cause answer) → accepted cause ≡ true
-unfolding accepted
-taken (Ok done) answer h = refl
-taken (Err cause) answer h = absurd (cc)
 
 pub fill-taken : (s : Set) (b : ℕ) → IsOk (fill s b) → accepted (fill_cause s b) ≡ true
 unfolding fill

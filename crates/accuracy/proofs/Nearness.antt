@@ -2,12 +2,12 @@
 -- near to: all multiplied out. A fraction below 4 rounds to one that is near it by 2 / 2 ^ 53. Assumes nothing.
 use mathlib.Core.Path.{◌≡◌, refl, ap}
 use mathlib.Core.Bool.{false}
-use Prim.Native.Nat.{ℕ, ◌+◌, ◌-◌, ◌*◌, ◌/◌, ◌^◌, ◌≤◌, ◌<◌}
+use Prim.Native.Nat.{ℕ, ◌+◌, ◌*◌, ◌/◌, ◌^◌, ◌≤◌, ◌<◌}
 use native.Mathlib.Nat.{le_trans, le_of_eq, lt_of_lt_of_le, lt_of_le_of_lt, mul_right_comm, mul-pos, mul-le-mul_left, mul-le-mul_right, mul-lt-mul_of_pos_right, le_of_mul-le-mul_right, div-lt_iff_lt-mul}
 use native.Mathlib.Omega.{arith}
 use lib.Dec.{lit≤}
 use lib.Pow.{pow_pos, pow_mono}
-use lib.Ieee.{Float, binary64, round, size}
+use lib.Ieee.{Float, binary64, round}
 use lib.Ieee.Digits.{size-le}
 use lib.Ieee.Exact.{HasValue}
 use lib.Ieee.Scale.{grid, round_val}
@@ -35,11 +35,8 @@ module _ (g : ℕ) where
   pub trans : (x y u v s t e f : ℕ) → 0 < v → Near g x y u v e → Near g u v s t f → Near g x y s t (e + f)
   trans x y u v s t e f vp h k = record {
     over = upto-trans x y u v s t e f vp h.over k.over;
-    under = swap (upto-trans s t u v x y f e vp k.under h.under);
+    under = omega (arith, upto-trans s t u v x y f e vp k.under h.under);
   }
-    where
-      swap : Upto g s t x y (f + e) → Upto g s t x y (e + f)
-      swap h = omega arith
 
   pub more : (x y u v e f : ℕ) → e ≤ f → Near g x y u v e → Near g x y u v f
   more x y u v e f l h = record { over = up h.over; under = down h.under }
@@ -96,17 +93,11 @@ U = 2 ^ 1074
 abbrev pub G : ℕ
 G = 2 ^ 53
 
-few : (z : ℕ) → z ≤ 1076 → z - 53 ≤ 1023
-few z h = omega arith
-
 cut-le : (a c : ℕ) → 0 < c → a < 4 * c → cut binary64 a c ≤ 1023
-cut-le a c C h = few (size (a * 2 ^ 1074 / c)) (size-le (a * 2 ^ 1074 / c) 1076 ((div-lt_iff_lt-mul C).1 (lt_of_lt_of_le (mul-lt-mul_of_pos_right h (pow_pos 1074)) (le_of_eq (mul_right_comm 4 c (2 ^ 1074))))))
+cut-le a c C h = omega (arith, size-le (a * 2 ^ 1074 / c) 1076 ((div-lt_iff_lt-mul C).1 (lt_of_lt_of_le (mul-lt-mul_of_pos_right h (pow_pos 1074)) (le_of_eq (mul_right_comm 4 c (2 ^ 1074))))))
 
 rescaled : (x y c k h u : ℕ) → 2 ^ 52 * h ≡ 2 * u → k ≤ h → 2 * x ≤ 2 * y + c * k → 2 ^ 53 * x ≤ 2 ^ 53 * y + 2 * (u * c)
 rescaled x y c k h u e l p = omega (arith, mul-le-mul_left c l, ap (λ (z : ℕ). c * z) e)
-
-turn : (x y u c : ℕ) → 2 ^ 53 * x ≤ 2 ^ 53 * y + 2 * (u * c) → 2 ^ 53 * x ≤ 2 ^ 53 * y + 2 * (c * u)
-turn x y u c h = omega arith
 
 scaled : (a b c u : ℕ) → a ≤ b * c → a * u ≤ b * u * c
 scaled a b c u h = le_trans (mul-le-mul_right u h) (le_of_eq (mul_right_comm b c u))
@@ -129,7 +120,7 @@ part k a c K C l =
       value = round_val binary64 a c g;
       near = record {
         over = rescaled (grid binary64 a c * c) (a * 2 ^ 1074) c (2 ^ cut binary64 a c) (2 ^ 1023) (2 ^ 1074) refl (pow_mono (cut-le a c C h)) (grid-over binary64 a c C);
-        under = turn (a * 2 ^ 1074) (grid binary64 a c * c) (2 ^ 1074) c (rescaled (a * 2 ^ 1074) (grid binary64 a c * c) c (2 ^ cut binary64 a c) (2 ^ 1023) (2 ^ 1074) refl (pow_mono (cut-le a c C h)) (grid-under binary64 a c C));
+        under = omega (arith, rescaled (a * 2 ^ 1074) (grid binary64 a c * c) c (2 ^ cut binary64 a c) (2 ^ 1023) (2 ^ 1074) refl (pow_mono (cut-le a c C h)) (grid-under binary64 a c C));
       };
       most = grid-most binary64 a c k 1074 C small (lt_of_lt_of_le fine (lit≤ tt)) g (scaled a k c (2 ^ 1074) l);
     }

@@ -42,7 +42,7 @@ module _ (n d : ℕ) (dp : 0 < d) (nd : 7 * n ≤ 11 * d) (y : Float) (yv : HasV
       let b = d * d in
       let bp : 0 < b = mul-pos dp dp in
       let ab : 49 * a ≤ 121 * b = squares n d nd in
-      let z : Part 3 (mul binary64 y y) a b = subst (λ (w : Float). Part 3 w a b) (sym (mul-by binary64 y y n d n d dp dp yv yv)) (part 3 a b (lit< tt) bp (third a b ab)) in
+      let z : Part 3 (mul binary64 y y) a b = subst (λ (w : Float). Part 3 w a b) (sym (mul-by binary64 y y n d n d dp dp yv yv)) (part 3 a b (lit< tt) bp (omega arith)) in
       let q = series-near a b bp ab (mul binary64 y y) z.at z.value z.near z.most in
       let du : 0 < d * U = mul-pos dp (pow_pos 1074) in
       let p = series (mul binary64 y y) one sine_divisors in
@@ -57,9 +57,6 @@ module _ (n d : ℕ) (dp : 0 < d) (nd : 7 * n ≤ 11 * d) (y : Float) (yv : HasV
             (product G n d n d 0 q.at U q.exact.A (B b divisors) 35026 11 7 55041 dp (pow_pos 1074) (lit< tt) q.most nd (lit≤ tt) (same-near G n d) q.near));
       }
     where
-      third : (a b : ℕ) → 49 * a ≤ 121 * b → a ≤ 3 * b
-      third a b h = omega arith
-
       twice : (n d P u : ℕ) → 7 * n ≤ 11 * d → P ≤ u → n * P ≤ 2 * (d * u)
       twice n d P u h l = omega (arith, mul-le-mul h l)
 

@@ -2,7 +2,6 @@
 -- and the level computed: the sum at 3 / 2, and of the 32-bit numbers 0.92's own neighbours on either side. Assumes nothing.
 use Prim.Native.Nat.{ℕ, ◌+◌, ◌*◌, ◌^◌, ◌≤◌}
 use mathlib.Core.Path.{◌≡◌, refl}
-use mathlib.Core.Bool.{true}
 use mathlib.Core.List.{List, [], ◌∷◌, ◌++◌}
 use contract.Lifetimes.{Lfts}
 use denote.Bor.{Bor}

@@ -23,6 +23,7 @@ use Rattle.accuracy.proofs.Nearness.{U}
 use Rattle.accuracy.proofs.QuarterWave.{quarter-wave-near}
 use Rattle.accuracy.proofs.Peak.{quarter-wave-peak}
 use Rattle.accuracy.proofs.Turn.{K, tau-value, common, value, half, past-quarter, from-half, below-tau, sevenths}
+use Rattle.std.proofs.lemmas.Bool.{and_right}
 use Rattle.math.proofs.Size.{Size, of-value, neg-size, zero-size, mul-size}
 
 abbrev pub peak : ℕ
@@ -42,10 +43,7 @@ module _ (n d : ℕ) (dp : 0 < d) (y : Float) (yv : HasValue y false n d) where
   quarter-size h =
       let nd = sevenths n d dp y yv h in
       let q = quarter-wave-near n d dp nd y yv in
-      of-value (quarter_wave y) false q.at U peak (pow_pos 1074) q.value (scale q.at U (quarter-wave-peak n d dp nd y yv))
-    where
-      scale : (x u : ℕ) → 128 * x ≤ 129 * u → x * 2 ^ 30 ≤ 129 * 2 ^ 23 * u
-      scale x u h = omega arith
+      of-value (quarter_wave y) false q.at U peak (pow_pos 1074) q.value (omega (arith, quarter-wave-peak n d dp nd y yv))
 
 module _ (n d : ℕ) (dp : 0 < d) (y : Float) (yv : HasValue y false n d) where
   -- up to H
@@ -55,14 +53,11 @@ module _ (n d : ℕ) (dp : 0 < d) (y : Float) (yv : HasValue y false n d) where
       subst (λ (t : Bool). Size peak (quarter_wave (cond t (sub binary64 half_turn y) y))) (sym (past-quarter n d dp y yv))
       (go (ltb (K * d) (n * 2 ^ 52)) (ltb→lt (K * d) (n * 2 ^ 52)) (nltb→le (K * d) (n * 2 ^ 52)))
     where
-      take : (x k d : ℕ) → k * d < x → 2 * k * d - x ≤ k * d
-      take x k d h = omega arith
-
       go : (t : Bool) → (T t → K * d < n * 2 ^ 52) → (T (not t) → n * 2 ^ 52 ≤ K * d) → Size peak (quarter_wave (cond t (sub binary64 half_turn y) y))
       go true g l =
           let w : AtMost (K * 2 ^ 1022) (sub binary64 half_turn y) =
           subst (AtMost (K * 2 ^ 1022)) (sym (sub_at binary64 half_turn y (2 * K * d) (n * 2 ^ 52) (d * 2 ^ 52) (common n d dp y yv) (half n d dp y yv) (value n d dp y yv) h))
-          (at_most (2 * K * d - n * 2 ^ 52) (d * 2 ^ 52) K 1022 (common n d dp y yv) (lit< tt) (lit< tt) (in-units (2 * K * d - n * 2 ^ 52) K d (2 ^ 1022) (2 ^ 1074) refl (take (n * 2 ^ 52) K d (g tt)))) in
+          (at_most (2 * K * d - n * 2 ^ 52) (d * 2 ^ 52) K 1022 (common n d dp y yv) (lit< tt) (lit< tt) (in-units (2 * K * d - n * 2 ^ 52) K d (2 ^ 1022) (2 ^ 1074) refl (omega (arith, g tt)))) in
           quarter-size w.at U (pow_pos 1074) (sub binary64 half_turn y) w.value (le_trans (mul-le-mul_right (2 ^ 52) w.most) (lit≤ tt))
       go false g l = quarter-size n d dp y yv (l tt)
 
@@ -73,11 +68,8 @@ module _ (n d : ℕ) (dp : 0 < d) (y : Float) (yv : HasValue y false n d) where
       let x = sub binary64 y half_turn in
       let w : AtMost (K * 2 ^ 1023) x = subst (AtMost (K * 2 ^ 1023))
       (sym (sub_at binary64 y half_turn (n * 2 ^ 52) (2 * K * d) (d * 2 ^ 52) (common n d dp y yv) (value n d dp y yv) (half n d dp y yv) h))
-      (at_most (n * 2 ^ 52 - 2 * K * d) (d * 2 ^ 52) K 1023 (common n d dp y yv) (lit< tt) (lit< tt) (le_trans (in-units (n * 2 ^ 52 - 2 * K * d) (2 * K) d (2 ^ 1022) (2 ^ 1074) refl (take (n * 2 ^ 52) K d l)) (le_of_eq refl))) in
+      (at_most (n * 2 ^ 52 - 2 * K * d) (d * 2 ^ 52) K 1023 (common n d dp y yv) (lit< tt) (lit< tt) (le_trans (in-units (n * 2 ^ 52 - 2 * K * d) (2 * K) d (2 ^ 1022) (2 ^ 1074) refl (omega arith)) (le_of_eq refl))) in
       neg-size peak (quarter_wave (folded x)) (folded-size w.at U (pow_pos 1074) x w.value (le_trans (mul-le-mul_right (2 ^ 52) w.most) (lit≤ tt)))
-    where
-      take : (x k d : ℕ) → x < 4 * k * d → x - 2 * k * d ≤ 2 * k * d
-      take x k d h = omega arith
 
   wave-size : n * 2 ^ 52 < 4 * K * d → Size peak (wave_by (le half_turn y) y)
   wave-size l =
@@ -108,14 +100,7 @@ quarter-minus-zero e =
 
 below_half : (e : ℤ) → le half_turn (fin true 0 e) ≡ false
 unfolding le of_bits
-below_half e = both (eqb (884279719003555 * down e) (0 * up e * 281474976710656)) (eqb (884279719003555 * down e) 0) (is_false (eqb (884279719003555 * down e) 0) (not_T (eqb (884279719003555 * down e) 0) (λ (t : T (eqb (884279719003555 * down e) 0)). no (down e) (down_pos e) (eqb→eq (884279719003555 * down e) 0 t))))
-  where
-    no : (d : ℕ) → 0 < d → 884279719003555 * d ≡ 0 → ⊥
-    no d p h = omega arith
-
-    both : (a b : Bool) → b ≡ false → (a && b) ≡ false
-    both true b h = h
-    both false b h = refl
+below_half e = and_right (eqb (884279719003555 * down e) (0 * up e * 281474976710656)) (eqb (884279719003555 * down e) 0) (is_false (eqb (884279719003555 * down e) 0) (not_T (eqb (884279719003555 * down e) 0) (λ (t : T (eqb (884279719003555 * down e) 0)). (omega (arith, down_pos e, eqb→eq (884279719003555 * down e) 0 t)))))
 
 folds-not : (e : ℤ) → folded (fin true 0 e) ≡ fin true 0 e
 unfolding folded lt of_bits

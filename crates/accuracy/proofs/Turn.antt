@@ -3,7 +3,7 @@
 use mathlib.Core.Path.{◌≡◌, refl}
 use mathlib.Core.Bool.{false}
 use Prim.Native.Nat.{ℕ, ◌*◌, ◌^◌, ◌≤◌, ◌<◌}
-use native.Mathlib.Nat.{mul-pos}
+use native.Mathlib.Nat.{mul_assoc, mul-pos}
 use native.Mathlib.Omega.{arith}
 use lib.Dec.{leb, ltb}
 use lib.Pow.{pow_pos}
@@ -40,10 +40,7 @@ module _ (n d : ℕ) (dp : 0 < d) (y : Float) (yv : HasValue y false n d) where
       swap n d = omega arith
 
   constant : (x : Float) (k : ℕ) → HasValue x false k (2 ^ 52) → HasValue x false (k * d) (d * 2 ^ 52)
-  constant x k v = rescale x false k (2 ^ 52) (k * d) (d * 2 ^ 52) (pow_pos 52) (swap k d (2 ^ 52)) v
-    where
-      swap : (k d c : ℕ) → k * d * c ≡ k * (d * c)
-      swap k d c = omega arith
+  constant x k v = rescale x false k (2 ^ 52) (k * d) (d * 2 ^ 52) (pow_pos 52) (mul_assoc k d (2 ^ 52)) v
 
   pub half : HasValue half_turn false (2 * K * d) (d * 2 ^ 52)
   half = constant half_turn (2 * K) half-value

@@ -88,14 +88,11 @@ module _ (r : ℕ) (ok : rate_ok r ≡ true) where
   up-exactly Idle digits count shown h c called = absurd (true≢false (sym called ∙ c.1))
   up-exactly Answering digits count shown h c called = absurd (true≢false (sym called ∙ c.1))
   up-exactly Dialling digits count shown h c called = (
-    λ (e : Dialling ≡ Connected). absurd (differ (ap state_number e)),
+    λ (e : Dialling ≡ Connected). absurd (omega (arith, ap state_number e)),
     λ (p : (length_of digits r < count) ⊎ (h.emptied ≡ true)).
         absurd (⊎_elim (λ (l : length_of digits r < count). past (length_of digits r) count l c.most) (λ (e : h.emptied ≡ true). true≢false (sym e ∙ c.waiting)) p),
   )
     where
-      differ : state_number Dialling ≡ state_number Connected → ⊥
-      differ e = omega arith
-
       past : (T count : ℕ) → T < count → count ≤ T → ⊥
       past T count l m = omega arith
   up-exactly Connected digits count shown h c called = (

@@ -7,7 +7,7 @@ use mathlib.Core.Path.{◌≡◌, refl, sym, ap, ◌∙◌}
 use mathlib.Core.Bool.{Bool, true, false, true≢false}
 use mathlib.Core.List.{List, [], ◌∷◌, ◌++◌}
 use mathlib.Core.Logic.{◌⊎◌, inl, inr}
-use lib.Dec.{eqb}
+use lib.Dec.{eqb-suc-zero, eqb}
 use lib.Ieee.{Float}
 use lib.ListN.{length}
 use borrow.Author.Tests.{eqb-true, eq-eqb, ne_eqb}
@@ -39,9 +39,6 @@ use Rattle.set.proofs.Follows.{InLimits, Wrote}
 at_most : (a b : ℕ) (stages : List ℕ) → a ≤ b → AllAtMost a stages → AllAtMost b stages
 at_most a b [] h p = tt
 at_most a b (x ∷ stages) h (p, q) = (le_trans p h, at_most a b stages h q)
-
-not-empty : (b : ℕ) → eqb (suc b) 0 ≡ false
-not-empty b = ne_eqb (suc b) 0 (λ (e : suc b ≡ 0). omega arith)
 
 abbrev playing : AtProcessor → List ℕ → ℕ → ℕ → Sending → Book
 playing p digits count shown x = record { processor = p; state = Dialling; digits = digits; count = count; shown = shown; sending = x }
@@ -91,10 +88,7 @@ module _ (r : ℕ) where
     pub room-left : (k : Book) (h : SinceDial) → Consistent k h → k.state ≡ Dialling → k.count + 65536 ≤ 5000000
     room-left k h p e =
         let c : Playing k.digits k.count k.shown h = rw e at p.progress in
-        within (length_of k.digits r) k.count (total-room r lo hi (length k.digits) (digits-few k.digits p.digits)) c.most
-      where
-        within : (T count : ℕ) → T + 65536 ≤ 4863942 → count ≤ T → count + 65536 ≤ 5000000
-        within T count room l = omega arith
+        (omega (arith, total-room r lo hi (length k.digits) (digits-few k.digits p.digits), c.most))
 
     -- ---- stage 10 begins after sample T
     module _ (digits : List ℕ) (keys : digits_ok digits ≡ true) where
@@ -104,10 +98,7 @@ module _ (r : ℕ) where
       past_end : (i : ℕ) → eqb (stage_of_sample digits r (suc i)) 10 ≡ true → length_of digits r ≤ i
       unfolding stage_of_sample
       past_end i e =
-          le_of_suc-le-suc (lt_of_not-le (λ (l : suc i ≤ length_of digits r). ten _ (eqb-true _ 10 e) (long.playing i l)))
-        where
-          ten : (n : ℕ) → n ≡ 10 → n ≤ 9 → ⊥
-          ten n e l = omega arith
+          le_of_suc-le-suc (lt_of_not-le (λ (l : suc i ≤ length_of digits r). omega (arith, eqb-true _ 10 e, long.playing i l)))
 
       before-end : (i : ℕ) → eqb (stage_of_sample digits r (suc i)) 10 ≡ false → i < length_of digits r
       unfolding stage_of_sample
@@ -194,7 +185,7 @@ module _ (r : ℕ) where
               progress = record {
                 called = c.called;
                 most = omega arith;
-                waiting = rw (c.waiting, not-empty b);
+                waiting = rw (c.waiting, eqb-suc-zero b);
                 next = rw add-suc (no_lower (count + b) (suc (count + b)) (omega arith));
                 top = (le_refl _, above);
                 rising = (above, c.rising);

@@ -28,7 +28,6 @@ use Rattle.claim.specs.Strings.{Step, single, string, set_of, all_singles, Holds
 use Rattle.claim.specs.Before.{NoS12Line, AllAsBefore}
 use Rattle.claim.proofs.Strings.{claim}
 use Rattle.claim.proofs.Before.{unset}
-use Rattle.claim.proofs.Lists as lists
 use Rattle.claim.proofs.Lists.{Act, every-list}
 use Rattle.claim.proofs.Worked as worked
 use Rattle.claim.proofs.WorkedSent as sent

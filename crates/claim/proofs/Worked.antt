@@ -180,12 +180,6 @@ acts-ask = refl
 
 -- up to the last fill the line is not up, and then it is
 module _ (k : Book) (a : At Dialling 0 k) where
-  whole : (T : ℕ) → 81533 ≤ T → 77136 + suc (T - 77137) ≡ T
-  whole T h = omega arith
-
-  rest-short : (T : ℕ) → T ≤ 81539 → suc (T - 77137) ≤ 65536
-  rest-short T h = omega arith
-
   within : (i : ℕ) → i < 81533 → i < T
   within i l = omega (arith, T-near.0)
 
@@ -197,8 +191,8 @@ module _ (k : Book) (a : At Dialling 0 k) where
       let a4 = fill-at false 8401 3199 _ a3 (lit≤ tt) (not-ten 11599 (within 11599 (lit≤ tt))) in
       let a5 = fill-at false 11600 65536 _ a4 (lit≤ tt) (not-ten 77135 (within 77135 (lit≤ tt))) in
       let last : eqb (stage_of_sample (ascii "12") 8000 (77136 + suc (T - 77137))) 10 ≡ false = rw add-suc (not-ten (77136 + (T - 77137)) (omega (arith, T-near.0))) in
-      let a6 = fill-at false 77136 (suc (T - 77137)) _ a5 (rest-short T T-near.1) last in
-      same_count (whole T T-near.0) a6
+      let a6 = fill-at false 77136 (suc (T - 77137)) _ a5 (omega (arith, T-near.1)) last in
+      same_count (omega (arith, T-near.0)) a6
 
   up-at-T : At Connected T (book_after 8000 k fills)
   up-at-T = same_count (add-zero T) (fill-at true T 0 _ played (lit≤ tt) ends)
@@ -235,12 +229,9 @@ module _ (count : ℕ) (h : SinceDial) (c : Up 8000 (ascii "12") count h) (e : c
   emptied-at-T : h.emptied ≡ true
   emptied-at-T =
       ⊎_elim
-      (λ (l : T < count). absurd (not-past T count l e))
+      (λ (l : T < count). absurd (omega arith))
       (λ (q : (count ≡ T) × (h.emptied ≡ true)). q.1)
       c.past
-    where
-      not-past : (T count : ℕ) → T < count → count ≡ T → ⊥
-      not-past T count l e = omega arith
 
 progress-up : (k : Book) (h : SinceDial) → At Connected T k → Consistent 8000 k h → Up 8000 (ascii "12") k.count h
 progress-up k h a consistent = rw (a.state-is, a.digits_are) at consistent.progress

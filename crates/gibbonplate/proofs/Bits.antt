@@ -2,11 +2,12 @@
 -- the end of every stage. Assumes nothing.
 use Prim.Native.Nat.{ℕ, ◌≤◌, ◌<◌}
 use mathlib.Core.Path.{◌≡◌, refl, sym, ap, subst, ◌∙◌}
-use mathlib.Core.Bool.{Bool, true, false, ◌&&◌, ◌||◌, true≢false, and-eq-true_iff}
+use mathlib.Core.Bool.{Bool, true, false, ◌||◌, true≢false, and-false, and-eq-true_iff}
 use mathlib.Core.List.{List, [], ◌∷◌}
 use lib.Dec.{eqb, lit≤}
 use lib.ListN.{length, get_or}
 use borrow.Author.Tests.{ltb-true, eqb-true, le-leb, lt-leb, le-ltb}
+use Rattle.std.proofs.lemmas.Bool.{false_from_ne_true}
 use Rattle.fsk.specs.Channel.{most_done}
 use Rattle.stage.specs.declared.StageState.{StageState}
 use Rattle.stage.specs.declared.StageState.TheVariants as at
@@ -57,10 +58,6 @@ stage-back at.Connected h = refl
 pub read_back : (p : PlainStage) (stage was : StageState) → was ≡ stage → Held stage → p ≡ plain stage → (p ≡ plain was) × (staged p ≡ was)
 read_back p stage was e h is = (is ∙ ap plain (sym e), ap staged is ∙ stage-back stage h ∙ sym e)
 
-and-false : (b : Bool) → (b && false) ≡ false
-and-false true = refl
-and-false false = refl
-
 module _ (p : PlainStage) (more : most_done < p.count) (d r : ℕ) where
   bits-over : (N : ℕ) → N ≤ most_done → bits_ok (bits_of p) N r ≡ false
   unfolding bits_ok
@@ -86,16 +83,14 @@ module _ (p : PlainStage) (more : most_done < p.count) (d r : ℕ) where
 
 pub too_many : (m : Memory) → too_many_bits m.counts m.marks ≡ true → sound (set_in m) ≡ false
 unfolding set_in staged
-too_many m h = by (sound (set_in m)) refl
-  where
-    by : (t : Bool) → sound (set_in m) ≡ t → sound (set_in m) ≡ false
-    by false e = e
-    by true e =
-        let (number, more) = (and-eq-true_iff (sends_bits (get_or m.marks 5 0)) _).0 h in
-        let s = set_in m in
-        let p = plain_in m.longs m.counts m.reals m.marks in
-        let parts = sound-parts s.session.stage (digits_held s.session) s.rate (ranges s e).state in
-        absurd (true≢false (sym parts.state ∙ stage-over p (ltb-true most_done p.count more) (length (digits_held s.session)) s.rate p.number number))
+too_many m h =
+    false_from_ne_true _
+    (λ (e : sound (set_in m) ≡ true).
+    let (number, more) = (and-eq-true_iff (sends_bits (get_or m.marks 5 0)) _).0 h in
+    let s = set_in m in
+    let p = plain_in m.longs m.counts m.reals m.marks in
+    let parts = sound-parts s.session.stage (digits_held s.session) s.rate (ranges s e).state in
+    true≢false (sym parts.state ∙ stage-over p (ltb-true most_done p.count more) (length (digits_held s.session)) s.rate p.number number))
 
 -- so are 65,536 in each of the four stages, and 65,535 are not too many to hold
 abbrev in_stage : ℕ → List ℕ

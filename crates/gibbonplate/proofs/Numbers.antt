@@ -1,11 +1,10 @@
--- A number that is no stage's is taken for Connected's, one that is no state's for Idle's. Assumes nothing.
+-- A number that is no stage's is taken for Connected's. Assumes nothing.
 use Prim.Native.Nat.{ℕ, zero, suc}
 use mathlib.Core.Path.{◌≡◌, refl}
 use lib.ListN.{get_or}
 use Rattle.stage.specs.declared.StageState.TheVariants.{Connected}
-use Rattle.session.specs.declared.SessionState.TheVariants.{Idle}
 use Rattle.gibbonplate.specs.declared.plain.PlainStage.{PlainStage}
-use Rattle.gibbonplate.specs.Memory.{stages, state_at}
+use Rattle.gibbonplate.specs.Memory.{stages}
 
 pub other-stage : (p : PlainStage) (n : ℕ) → (n ≡ 1 → ⊥) → (n ≡ 2 → ⊥) → (n ≡ 3 → ⊥) → (n ≡ 4 → ⊥) → (n ≡ 5 → ⊥) → (n ≡ 6 → ⊥) → (n ≡ 7 → ⊥) → (n ≡ 8 → ⊥) → (n ≡ 9 → ⊥) → get_or (stages p) n Connected ≡ Connected
 other-stage p zero n1 n2 n3 n4 n5 n6 n7 n8 n9 = refl
@@ -19,10 +18,3 @@ other-stage p (suc (suc (suc (suc (suc (suc (suc zero))))))) n1 n2 n3 n4 n5 n6 n
 other-stage p (suc (suc (suc (suc (suc (suc (suc (suc zero)))))))) n1 n2 n3 n4 n5 n6 n7 n8 n9 = absurd (n8 refl)
 other-stage p (suc (suc (suc (suc (suc (suc (suc (suc (suc zero))))))))) n1 n2 n3 n4 n5 n6 n7 n8 n9 = absurd (n9 refl)
 other-stage p (suc (suc (suc (suc (suc (suc (suc (suc (suc (suc n)))))))))) n1 n2 n3 n4 n5 n6 n7 n8 n9 = refl
-
-pub other-state : (n : ℕ) → (n ≡ 1 → ⊥) → (n ≡ 2 → ⊥) → (n ≡ 3 → ⊥) → state_at n ≡ Idle
-other-state zero n1 n2 n3 = refl
-other-state (suc zero) n1 n2 n3 = absurd (n1 refl)
-other-state (suc (suc zero)) n1 n2 n3 = absurd (n2 refl)
-other-state (suc (suc (suc zero))) n1 n2 n3 = absurd (n3 refl)
-other-state (suc (suc (suc (suc n)))) n1 n2 n3 = refl

@@ -1,11 +1,11 @@
 -- What was stored is loaded as it was, part by part; and memory that holds no set loads as an unsound one: no sound set has rate 0.
 -- Assumes nothing.
-use Prim.Native.Nat.{◌≤◌}
 use mathlib.Core.Path.{◌≡◌, refl, sym, ap, ◌∙◌}
 use mathlib.Core.Bool.{Bool, true, false}
 use mathlib.Core.List.{[], ◌∷◌}
 use lib.Dec.{leb, eqb}
 use native.Mathlib.Omega.{arith}
+use Rattle.std.proofs.lemmas.Bool.{false_from_ne_true}
 use Rattle.command.specs.Line.{ran_over}
 use Rattle.at.specs.Processor.{command_mode, line_of, seen}
 use Rattle.stage.specs.declared.StageState.{StageState}
@@ -101,8 +101,4 @@ pub flags-of-2 :
 flags-of-2 = (refl, refl, refl, refl, refl)
 
 pub no-set : sound (fresh_set 0) ≡ false
-no-set = by (sound (fresh_set 0)) refl
-  where
-    by : (t : Bool) → sound (fresh_set 0) ≡ t → sound (fresh_set 0) ≡ false
-    by false e = e
-    by true e = let h : 8000 ≤ 0 = (sound-rate (fresh_set 0) e).0 in absurd (omega arith)
+no-set = false_from_ne_true _ (λ (e : sound (fresh_set 0) ≡ true). omega (arith, (sound-rate (fresh_set 0) e).0))

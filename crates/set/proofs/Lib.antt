@@ -1,5 +1,6 @@
--- Laws on a set: its ranges, that calls leave it sound, what each answers and what a refusal leaves, that it follows the book, and the examples
+-- Laws on a set: that an answered call is accepted, its ranges, that calls leave it sound, what each answers and what a refusal leaves, that it follows the book, and the examples
 -- of 01's table of refusals.
+pub mod Accepted
 pub mod Ranges
 pub mod Soundness
 pub mod String

@@ -7,6 +7,7 @@ use contract.Lifetimes.{Lfts}
 use denote.MutBor.{MutBor}
 use denote.Ref.{at_last}
 use Rattle.claim.specs.Expand as expand
+use Rattle.claim.proofs.Contracts.{lent}
 use Rattle.uart.specs.declared.Chip.{Chip}
 use Rattle.uart.specs.declared.Read.{Read}
 use Rattle.uart.specs.declared.Written.{Written}
@@ -62,9 +63,6 @@ pub serves-of-contracts : (rate : ℕ) (es : List Event) → Trace (uart.started
 serves-of-contracts rate es t = serves rate es (history _ es t)
 
 -- ---- and back: each list of Trace.antt is one of calls that are allowed and did what their contracts promise, whatever memory is lent
-abbrev pub lent : {X : Type 0} → List X → MutBor (List X)
-lent values = record { ref_ptr = (0, 0); ghost_name = 0; now = values }
-
 did-back : Lfts 1 → (c : Chip) (e : Event) → trace.Did c e → Did c e
 did-back κs c e (trace.reading address answer d) = reading address answer tt d
 did-back κs c e (trace.writing address value carrier was left answer d) = writing address value carrier κs (lent was) left answer tt d

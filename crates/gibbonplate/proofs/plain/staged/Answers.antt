@@ -1,5 +1,6 @@
 -- `plain::staged` meets its contract: by the number. Assumes nothing.
 use mathlib.Core.Path.{sym}
+use native.Mathlib.Omega.{arith}
 use Rattle.gibbonplate.specs.Memory.{staged}
 use Rattle.gibbonplate.proofs.Numbers.{other-stage}
 use Rattle.gibbonplate.proofs.plain.staged.Goals as goal
@@ -42,4 +43,4 @@ returns-in-9 c = rw (c.in-9.is, c.bits-fsk.ensures)
 
 pub returns-in_default : goal.returns-in_default
 unfolding staged
-returns-in_default c = let r = c.in_default.in_default-own.rest in sym (other-stage c.args.p _ r.0.0.0.0.0.0.0.0.1 r.0.0.0.0.0.0.0.1 r.0.0.0.0.0.0.1 r.0.0.0.0.0.1 r.0.0.0.0.1 r.0.0.0.1 r.0.0.1 r.0.1 r.1)
+returns-in_default c = sym (other-stage c.args.p _ (λ e. omega arith) (λ e. omega arith) (λ e. omega arith) (λ e. omega arith) (λ e. omega arith) (λ e. omega arith) (λ e. omega arith) (λ e. omega arith) (λ e. omega arith))
