@@ -37,7 +37,7 @@ returns-then-phase-digits c = let near = rounded (c.args.digits * c.args.rate.he
     sym (dialling-after _ c.args.rate.slow c.args.rate.fast _ c.requires (some _ c.if-digits-eq0.false) _ near.0 near.1
     (subst (λ (z : ℕ). z < c.args.digits) (digit (goal.at.returns-then-phase-digits c).After-dialling_phase-phase) c.if-phase-digits.true))
 
-pub returns : goal.returns
-returns c = let near = rounded (c.args.digits * c.args.rate.hertz) in
+pub returns-else-phase-digits : goal.returns-else-phase-digits
+returns-else-phase-digits c = let near = rounded (c.args.digits * c.args.rate.hertz) in
     sym (dialling-there _ c.args.rate.slow c.args.rate.fast _ c.requires (some _ c.if-digits-eq0.false) _ near.0 near.1
-    (subst (λ (z : ℕ). c.args.digits ≤ z) (digit (goal.at.returns c).After-dialling_phase-phase) c.if-phase-digits.false))
+    (subst (λ (z : ℕ). c.args.digits ≤ z) (digit (goal.at.returns-else-phase-digits c).After-dialling_phase-phase) c.if-phase-digits.false))
