@@ -6,8 +6,8 @@ ghost use Rattle.std.specs.Prelude.{◌≡◌, ◌-◌, MatchOption, true, false
 ghost use Rattle.command.specs.Line.{empty_line, typed, sound_line, pushed, uppercased};
 ghost use Rattle.command.specs.Command.{begins, is, is_digit, setting_of, number_in, command_of};
 
-// A command line: the first `len` of its bytes, and whether more were typed than it holds. C lends
-// its fields, so it is an array with a length and no `Vec`.
+// A command line: the first `len` of its bytes, and whether more were typed than it holds. There is
+// no heap, and `sound` has to tell of any length, so it is an array with a length and no `Vec`.
 #[derive(Clone, Copy)]
 pub struct Line {
     pub bytes: [u8; 80],
@@ -55,7 +55,8 @@ impl Line {
         self.bytes.get(..self.len).unwrap_or(&self.bytes)
     }
 
-    // One byte more. A full line drops it, and remembers that it ran over.
+    // One byte more. A full line drops it, and remembers that it ran over. By value, as 01 has it of
+    // the processor, which holds the line.
     #[tactic(auto, unfolding(crate::specs::Line::pushed))]
     pub fn push(mut self, byte: u8) -> Self
         ensures { result ≡ pushed self byte }

@@ -127,7 +127,8 @@ impl Deframer {
         None
     }
 
-    // A list of bits: all are taken, or those before the bit that would give a byte more than the buffer has room for.
+    // A list of bits: all are taken, or those before the bit that would give a byte more than the buffer has room for. By value, as
+    // 02 has it: "the same bytes and place" come of any split into calls.
     pub fn read(self, bits: &[u8], out: &mut [u8]) -> Reading
         ensures value { result ≡ answer_of (read_of (length out.old) self (marks_of bits.now)) }
         ensures out_after { out.new ≡ wrote_of (read_of (length out.old) self (marks_of bits.now)) out.old }
