@@ -5,7 +5,8 @@ ghost use Rattle.std.specs.Prelude.{◌≡◌, length};
 ghost use Rattle.ascii.specs.Front.{put, put_length};
 ghost use Rattle.ascii.specs.Upper.{upper};
 
-// Copies `text` to the front of `out` where it fits whole, and answers its length; else 0.
+// Copies `text` to the front of `out` where it fits whole, and answers its length; else 0, as 01's writer does: its callers hand
+// the number on.
 #[tactic(auto, unfolding(crate::specs::Front::put, crate::specs::Front::put_length))]
 pub fn put_front(text: &[u8], out: &mut [u8]) -> usize
     ensures value { result ≡ put_length text.now (length out.old) }

@@ -7,11 +7,12 @@ use mathlib.Core.Path.{◌≡◌, refl, sym, ap, ◌∙◌}
 use mathlib.Core.Bool.{Bool, true, false, ◌&&◌, and-false}
 use mathlib.Core.Logic.{◌⊎◌, inl, inr}
 use lib.Dec.{leb, ltb, eqb}
+use Rattle.std.specs.Prelude.{Option, Some, None}
 use lib.ListN.{drop}
 use Rattle.ascii.specs.Ascii.{ascii}
 use Rattle.command.specs.declared.Line.{Line}
 use Rattle.command.specs.declared.Command.{Command}
-use Rattle.command.specs.declared.Command.TheVariants.{At, Atz, Ati, Ata, Ath, Ato, Atdt, AskS12, SetS12, Unknown}
+use Rattle.command.specs.declared.Command.TheVariants.{At, Atz, Ati, Ata, Ath, Ato, Atdt, AskS12, SetS12}
 use Rattle.command.specs.Line.{empty_line, typed, ran_over, uppercased}
 use Rattle.command.specs.Command.{begins, is, read, value_from, is_setting, setting_of, command_of}
 use Rattle.at.specs.declared.AtProcessor.{AtProcessor}
@@ -29,12 +30,12 @@ clash : {A : Type 0} → ◌≡◌ {A = Bool} true false → A
 clash e = let none : ◌≡◌ {A = ℕ} 0 1 = cc in absurd (omega arith)
 
 -- ---- a line that is no S12 line is 01's
-step : (t : Bool) (this x y : Command) → (of_s12 x ≡ false → x ≡ y) → of_s12 (read t this x) ≡ false → read t this x ≡ read t this y
+step : (t : Bool) (this x y : Option Command) → (of_s12 x ≡ false → x ≡ y) → of_s12 (read t this x) ≡ false → read t this x ≡ read t this y
 step true this x y f e = refl
 step false this x y f e = f e
 
-no-s12 : (asks sets good : Bool) (n : ℕ) → of_s12 (read asks AskS12 (read sets (read good (SetS12 n) Unknown) Unknown)) ≡ false
-    → read asks AskS12 (read sets (read good (SetS12 n) Unknown) Unknown) ≡ Unknown
+no-s12 : (asks sets good : Bool) (n : ℕ) → of_s12 (read asks (Some AskS12) (read sets (read good (Some (SetS12 n)) None) None)) ≡ false
+    → read asks (Some AskS12) (read sets (read good (Some (SetS12 n)) None) None) ≡ None
 no-s12 true sets good n e = clash e
 no-s12 false false good n e = refl
 no-s12 false true true n e = clash e
@@ -44,16 +45,16 @@ pub command-as-before : (l : Line) → of_s12 (command_of l) ≡ false → comma
 unfolding command_of command_before setting_of
 command-as-before l =
     let line = typed l in
-    step (ran_over l) Unknown _ _
-    (step (is (ascii "AT") line) At _ _
-    (step (is (ascii "ATZ") line) Atz _ _
-    (step (is (ascii "ATI") line) Ati _ _
-    (step (is (ascii "ATA") line) Ata _ _
-    (step (is (ascii "ATH") line) Ath _ _
-    (step (is (ascii "ATH0") line) Ath _ _
-    (step (is (ascii "ATO") line) Ato _ _
-    (step (is (ascii "ATO0") line) Ato _ _
-    (step (begins (ascii "ATDT") line) Atdt _ _
+    step (ran_over l) None _ _
+    (step (is (ascii "AT") line) (Some At) _ _
+    (step (is (ascii "ATZ") line) (Some Atz) _ _
+    (step (is (ascii "ATI") line) (Some Ati) _ _
+    (step (is (ascii "ATA") line) (Some Ata) _ _
+    (step (is (ascii "ATH") line) (Some Ath) _ _
+    (step (is (ascii "ATH0") line) (Some Ath) _ _
+    (step (is (ascii "ATO") line) (Some Ato) _ _
+    (step (is (ascii "ATO0") line) (Some Ato) _ _
+    (step (begins (ascii "ATDT") line) (Some Atdt) _ _
     (no-s12 (is (ascii "ATS12?") line) (begins (ascii "ATS12=") line) (is_setting (drop 6 line)) (value_from 0 (drop 6 line))))))))))))
 
 -- ---- 01's comparisons read no S12
@@ -70,25 +71,25 @@ escaped-reads-none p n = go (eqb (pluses p) 3 && leb one_second p.idle)
     go false = refl
 
 -- and so does no call of 01's processor: with another S12 it answers and sends the same, and is the same but for S12
-abbrev fed_apart : Fed → Fed
-fed_apart f = record { processor = with_s12 0 f.processor; reply = f.reply; control = f.control; sent = f.sent; line = f.line }
-
 abbrev outcome_apart : Outcome → Outcome
 outcome_apart o = outcome (with_s12 0 o.processor) o.reply o.control
 
-executed-reads-none : (command : Command) (carrier : Bool) (p : AtProcessor) (n : ℕ) → outcome_apart (executed command carrier (with_s12 n p)) ≡ outcome_apart (executed command carrier p)
+abbrev fed_apart : Fed → Fed
+fed_apart f = record { outcome = outcome_apart f.outcome; sent = f.sent; line = f.line }
+
+executed-reads-none : (command : Option Command) (carrier : Bool) (p : AtProcessor) (n : ℕ) → outcome_apart (executed command carrier (with_s12 n p)) ≡ outcome_apart (executed command carrier p)
 unfolding executed
-executed-reads-none At carrier p n = refl
-executed-reads-none Atz carrier p n = refl
-executed-reads-none Ati carrier p n = refl
-executed-reads-none Ata carrier p n = refl
-executed-reads-none Ath carrier p n = refl
-executed-reads-none Ato true p n = refl
-executed-reads-none Ato false p n = refl
-executed-reads-none Atdt carrier p n = refl
-executed-reads-none AskS12 carrier p n = refl
-executed-reads-none (SetS12 s12) carrier p n = refl
-executed-reads-none Unknown carrier p n = refl
+executed-reads-none (Some At) carrier p n = refl
+executed-reads-none (Some Atz) carrier p n = refl
+executed-reads-none (Some Ati) carrier p n = refl
+executed-reads-none (Some Ata) carrier p n = refl
+executed-reads-none (Some Ath) carrier p n = refl
+executed-reads-none (Some Ato) true p n = refl
+executed-reads-none (Some Ato) false p n = refl
+executed-reads-none (Some Atdt) carrier p n = refl
+executed-reads-none (Some AskS12) carrier p n = refl
+executed-reads-none (Some (SetS12 s12)) carrier p n = refl
+executed-reads-none None carrier p n = refl
 
 module _ (p : AtProcessor) (n : ℕ) where
   pub typed-reads-none : (byte : ℕ) (carrier : Bool) (room : ℕ) → fed_apart (typed_byte_before (with_s12 n p) byte carrier room) ≡ fed_apart (typed_byte_before p byte carrier room)
@@ -196,17 +197,17 @@ module _ (p : AtProcessor) (e : p.s12 ≡ fresh_s12) where
       go false = escaped-as-before (with_escape (pluses p) (added p.idle ns) p) e
 
 -- ---- what ends an S12 line: CR in command mode, after a line that sets it or asks for it, and nothing else
-no-other-command : (command : Command) → (command ≡ AskS12 → ⊥) → ((n : ℕ) → command ≡ SetS12 n → ⊥) → of_s12 command ≡ false
-no-other-command At asks sets = refl
-no-other-command Atz asks sets = refl
-no-other-command Ati asks sets = refl
-no-other-command Ata asks sets = refl
-no-other-command Ath asks sets = refl
-no-other-command Ato asks sets = refl
-no-other-command Atdt asks sets = refl
-no-other-command AskS12 asks sets = absurd (asks refl)
-no-other-command (SetS12 n) asks sets = absurd (sets n refl)
-no-other-command Unknown asks sets = refl
+no-other-command : (command : Option Command) → (command ≡ Some AskS12 → ⊥) → ((n : ℕ) → command ≡ Some (SetS12 n) → ⊥) → of_s12 command ≡ false
+no-other-command (Some At) asks sets = refl
+no-other-command (Some Atz) asks sets = refl
+no-other-command (Some Ati) asks sets = refl
+no-other-command (Some Ata) asks sets = refl
+no-other-command (Some Ath) asks sets = refl
+no-other-command (Some Ato) asks sets = refl
+no-other-command (Some Atdt) asks sets = refl
+no-other-command (Some AskS12) asks sets = absurd (asks refl)
+no-other-command (Some (SetS12 n)) asks sets = absurd (sets n refl)
+no-other-command None asks sets = refl
 
 module _ (p : AtProcessor) (byte : ℕ) where
   pub none-in-data-mode : command_mode p ≡ false → ends_s12_line p byte ≡ false
@@ -217,88 +218,88 @@ module _ (p : AtProcessor) (byte : ℕ) where
   unfolding ends_s12_line
   none-but-return e = rw (e, and-false)
 
-  pub none-of-01 : (command_of (uppercased (line_of p)) ≡ AskS12 → ⊥) → ((n : ℕ) → command_of (uppercased (line_of p)) ≡ SetS12 n → ⊥) → ends_s12_line p byte ≡ false
+  pub none-of-01 : (command_of (uppercased (line_of p)) ≡ Some AskS12 → ⊥) → ((n : ℕ) → command_of (uppercased (line_of p)) ≡ Some (SetS12 n) → ⊥) → ends_s12_line p byte ≡ false
   unfolding ends_s12_line
   none-of-01 asks sets = rw (no-other-command (command_of (uppercased (line_of p))) asks sets, and-false, and-false)
 
 -- ---- S12 after a line: a setting is taken, ATZ makes it 50, and every other line leaves it
-abbrev pub s12_after : Command → ℕ → ℕ
-s12_after (SetS12 n) s12 = n
-s12_after Atz s12 = 50
-s12_after At s12 = s12
-s12_after Ati s12 = s12
-s12_after Ata s12 = s12
-s12_after Ath s12 = s12
-s12_after Ato s12 = s12
-s12_after Atdt s12 = s12
-s12_after AskS12 s12 = s12
-s12_after Unknown s12 = s12
+abbrev pub s12_after : Option Command → ℕ → ℕ
+s12_after (Some (SetS12 n)) s12 = n
+s12_after (Some Atz) s12 = 50
+s12_after (Some At) s12 = s12
+s12_after (Some Ati) s12 = s12
+s12_after (Some Ata) s12 = s12
+s12_after (Some Ath) s12 = s12
+s12_after (Some Ato) s12 = s12
+s12_after (Some Atdt) s12 = s12
+s12_after (Some AskS12) s12 = s12
+s12_after None s12 = s12
 
-executed-s12 : (command : Command) (carrier : Bool) (p : AtProcessor) → (executed command carrier p).processor.s12 ≡ s12_after command p.s12
+executed-s12 : (command : Option Command) (carrier : Bool) (p : AtProcessor) → (executed command carrier p).processor.s12 ≡ s12_after command p.s12
 unfolding executed
-executed-s12 At carrier p = refl
-executed-s12 Atz carrier p = refl
-executed-s12 Ati carrier p = refl
-executed-s12 Ata carrier p = refl
-executed-s12 Ath carrier p = refl
-executed-s12 Ato true p = refl
-executed-s12 Ato false p = refl
-executed-s12 Atdt carrier p = refl
-executed-s12 AskS12 carrier p = refl
-executed-s12 (SetS12 n) carrier p = refl
-executed-s12 Unknown carrier p = refl
+executed-s12 (Some At) carrier p = refl
+executed-s12 (Some Atz) carrier p = refl
+executed-s12 (Some Ati) carrier p = refl
+executed-s12 (Some Ata) carrier p = refl
+executed-s12 (Some Ath) carrier p = refl
+executed-s12 (Some Ato) true p = refl
+executed-s12 (Some Ato) false p = refl
+executed-s12 (Some Atdt) carrier p = refl
+executed-s12 (Some AskS12) carrier p = refl
+executed-s12 (Some (SetS12 n)) carrier p = refl
+executed-s12 None carrier p = refl
 
 module _ (p : AtProcessor) (carrier : Bool) (room : ℕ) where
   pub line-s12 : command_mode p ≡ true → eqb (line_of p).len 0 ≡ false
-      → (typed_byte p (code "\r") carrier room).processor.s12 ≡ s12_after (command_of (uppercased (line_of p))) p.s12
+      → (typed_byte p (code "\r") carrier room).outcome.processor.s12 ≡ s12_after (command_of (uppercased (line_of p))) p.s12
   unfolding typed_byte command_byte ended
   line-s12 mode some = by_mode (command_mode p) mode
     where
-      ending : (empty : Bool) → empty ≡ false → (ended_if empty p carrier).processor.s12 ≡ s12_after (command_of (uppercased (line_of p))) p.s12
+      ending : (empty : Bool) → empty ≡ false → (ended_if empty p carrier).outcome.processor.s12 ≡ s12_after (command_of (uppercased (line_of p))) p.s12
       ending true e = clash e
       ending false e = executed-s12 (command_of (uppercased (line_of p))) carrier (with_line empty_line p)
 
-      by_mode : (mode : Bool) → mode ≡ true → (typed_byte_if mode p (code "\r") carrier room).processor.s12 ≡ s12_after (command_of (uppercased (line_of p))) p.s12
+      by_mode : (mode : Bool) → mode ≡ true → (typed_byte_if mode p (code "\r") carrier room).outcome.processor.s12 ≡ s12_after (command_of (uppercased (line_of p))) p.s12
       by_mode true e = ending (eqb (line_of p).len 0) some
       by_mode false e = clash (sym e)
 
-  pub byte-leaves-s12 : (byte : ℕ) → (command_mode p && eqb byte (code "\r")) ≡ false → (typed_byte p byte carrier room).processor.s12 ≡ p.s12
+  pub byte-leaves-s12 : (byte : ℕ) → (command_mode p && eqb byte (code "\r")) ≡ false → (typed_byte p byte carrier room).outcome.processor.s12 ≡ p.s12
   unfolding typed_byte command_byte data_byte
   byte-leaves-s12 byte = by_mode (command_mode p)
     where
-      in-command : (lf cr : Bool) → cr ≡ false → (command_byte_if lf cr p byte carrier).processor.s12 ≡ p.s12
+      in-command : (lf cr : Bool) → cr ≡ false → (command_byte_if lf cr p byte carrier).outcome.processor.s12 ≡ p.s12
       in-command true cr e = refl
       in-command false true e = clash e
       in-command false false e = refl
 
-      in-data : (w r : Bool) → (data_byte_if w r p).processor.s12 ≡ p.s12
+      in-data : (w r : Bool) → (data_byte_if w r p).outcome.processor.s12 ≡ p.s12
       in-data true r = refl
       in-data false true = refl
       in-data false false = refl
 
-      by_mode : (mode : Bool) → (mode && eqb byte (code "\r")) ≡ false → (typed_byte_if mode p byte carrier room).processor.s12 ≡ p.s12
+      by_mode : (mode : Bool) → (mode && eqb byte (code "\r")) ≡ false → (typed_byte_if mode p byte carrier room).outcome.processor.s12 ≡ p.s12
       by_mode true e = in-command (eqb byte (code "\n")) (eqb byte (code "\r")) e
       by_mode false e = in-data (withheld p byte) (ltb (pluses p) room)
 
 -- ---- only an S12 line makes it another: every other line leaves it, or sets it to 50
-after-command : (command : Command) (carrier : Bool) (p : AtProcessor) → of_s12 command ≡ false
+after-command : (command : Option Command) (carrier : Bool) (p : AtProcessor) → of_s12 command ≡ false
     → ((executed command carrier p).processor.s12 ≡ p.s12) ⊎ ((executed command carrier p).processor.s12 ≡ fresh_s12)
 unfolding executed
-after-command At carrier p n = inl refl
-after-command Atz carrier p n = inr refl
-after-command Ati carrier p n = inl refl
-after-command Ata carrier p n = inl refl
-after-command Ath carrier p n = inl refl
-after-command Ato true p n = inl refl
-after-command Ato false p n = inl refl
-after-command Atdt carrier p n = inl refl
-after-command AskS12 carrier p n = inl refl
-after-command (SetS12 s12) carrier p n = clash n
-after-command Unknown carrier p n = inl refl
+after-command (Some At) carrier p n = inl refl
+after-command (Some Atz) carrier p n = inr refl
+after-command (Some Ati) carrier p n = inl refl
+after-command (Some Ata) carrier p n = inl refl
+after-command (Some Ath) carrier p n = inl refl
+after-command (Some Ato) true p n = inl refl
+after-command (Some Ato) false p n = inl refl
+after-command (Some Atdt) carrier p n = inl refl
+after-command (Some AskS12) carrier p n = inl refl
+after-command (Some (SetS12 s12)) carrier p n = clash n
+after-command None carrier p n = inl refl
 
 module _ (p : AtProcessor) (byte : ℕ) (carrier : Bool) (room : ℕ) where
   abbrev Kept : Fed → Type 0
-  Kept f = (f.processor.s12 ≡ p.s12) ⊎ (f.processor.s12 ≡ fresh_s12)
+  Kept f = (f.outcome.processor.s12 ≡ p.s12) ⊎ (f.outcome.processor.s12 ≡ fresh_s12)
 
   kept-ended : (empty : Bool) → of_s12 (command_of (uppercased (line_of p))) ≡ false → Kept (ended_if empty p carrier)
   kept-ended true n = inl refl

@@ -13,7 +13,7 @@ use Rattle.command.specs.Command.{command_of}
 use Rattle.at.specs.declared.AtProcessor.{AtProcessor}
 use Rattle.at.specs.declared.Fed.{Fed}
 use Rattle.at.specs.Processor.{command_mode, line_of, pluses, with_line, with_escape}
-use Rattle.at.specs.Answer.{quiet, answered}
+use Rattle.at.specs.Answer.{outcome, quiet, answered}
 use Rattle.at.specs.Command.{executed}
 use Rattle.at.specs.Escape.{withheld, pluses_then, released, released_if, data_byte, data_byte_if}
 use Rattle.at.specs.At.{ended, ended_if, command_byte, command_byte_if, typed_byte, typed_byte_if, sent, sent_if}
@@ -30,7 +30,7 @@ module _ (p : AtProcessor) (byte : ℕ) (carrier : Bool) (room : ℕ) where
     -- a plus that is withheld
     waits : withheld p byte ≡ true → Typed (quiet (with_escape (pluses p + 1) 0 p)) []
     -- any other byte in data mode, and one that finds no room
-    sends : pluses p < room → Typed (record { processor = with_escape 0 0 p; reply = reply.None; control = None; sent = pluses p + 1; line = empty_line }) (pluses_then (pluses p) byte)
+    sends : pluses p < room → Typed (record { outcome = outcome (with_escape 0 0 p) reply.None None; sent = pluses p + 1; line = empty_line }) (pluses_then (pluses p) byte)
     declined : room ≤ pluses p → Typed (quiet p) (pluses_then (pluses p) byte)
 
   ending : (empty : Bool) → Typed (ended_if empty p carrier) []

@@ -28,7 +28,7 @@ use Rattle.at.specs.Before.{ends_s12_line}
 -- a line typed into a fresh processor
 pub typing : List ℕ → AtProcessor → AtProcessor
 typing [] p = p
-typing (byte ∷ bytes) p = typing bytes (typed_byte p byte false 4).processor
+typing (byte ∷ bytes) p = typing bytes (typed_byte p byte false 4).outcome.processor
 
 -- the answer to the CR after it
 pub answer_to : String → Fed
@@ -36,52 +36,52 @@ unfolding typing typed_byte command_byte ended pushed upper uppercased begins is
 answer_to line = typed_byte (typing (ascii line) fresh) (code "\r") false 4
 
 -- ATDT12
-pub atdt12 : ((answer_to "ATDT12").control ≡ Some Dial) × (after_atdt (answer_to "ATDT12") ≡ ascii "12")
+pub atdt12 : ((answer_to "ATDT12").outcome.control ≡ Some Dial) × (after_atdt (answer_to "ATDT12") ≡ ascii "12")
 unfolding answer_to
 atdt12 = (refl, refl)
 
 -- atdtabcdef: after ATDT stands ABCDEF, of which ABCD are keys
-pub atdtabcdef : ((answer_to "atdtabcdef").control ≡ Some Dial) × (after_atdt (answer_to "atdtabcdef") ≡ ascii "ABCDEF")
+pub atdtabcdef : ((answer_to "atdtabcdef").outcome.control ≡ Some Dial) × (after_atdt (answer_to "atdtabcdef") ≡ ascii "ABCDEF")
 unfolding answer_to
 atdtabcdef = (refl, refl)
 
 -- ATDP1
-pub atdp1 : (answer_to "ATDP1").reply ≡ One Error
+pub atdp1 : (answer_to "ATDP1").outcome.reply ≡ One Error
 unfolding answer_to
 atdp1 = refl
 
 -- AT DT1
-pub at-dt1 : (answer_to "AT DT1").reply ≡ One Error
+pub at-dt1 : (answer_to "AT DT1").outcome.reply ≡ One Error
 unfolding answer_to
 at-dt1 = refl
 
 -- 02, E1: ATDT and 76 digits are dialled, and with one more CR gives ERROR and empties the line
-pub atdt-76 : ((answer_to "ATDT1111111111111111111111111111111111111111111111111111111111111111111111111111").control ≡ Some Dial)
+pub atdt-76 : ((answer_to "ATDT1111111111111111111111111111111111111111111111111111111111111111111111111111").outcome.control ≡ Some Dial)
 unfolding answer_to
 atdt-76 = refl
 
-pub atdt-77 : ((answer_to "ATDT11111111111111111111111111111111111111111111111111111111111111111111111111111").reply ≡ One Error) × (line_of (answer_to "ATDT11111111111111111111111111111111111111111111111111111111111111111111111111111").processor ≡ empty_line)
+pub atdt-77 : ((answer_to "ATDT11111111111111111111111111111111111111111111111111111111111111111111111111111").outcome.reply ≡ One Error) × (line_of (answer_to "ATDT11111111111111111111111111111111111111111111111111111111111111111111111111111").outcome.processor ≡ empty_line)
 unfolding answer_to
 atdt-77 = (refl, refl)
 
 -- 02, E6: S12 is 50 when fresh; up to three digits up to 255 set it, small letters too, and ATS12? gives codes 6 and 1
 pub s12-set : (fresh.s12 ≡ 50)
-    × ((answer_to "ATS12=0").processor.s12 ≡ 0)
-    × ((answer_to "ats12=007").processor.s12 ≡ 7)
-    × ((answer_to "ATS12=255").processor.s12 ≡ 255)
-    × ((answer_to "ATS12=255").reply ≡ One Ok)
-    × ((answer_to "ats12?").reply ≡ Two S12 Ok)
+    × ((answer_to "ATS12=0").outcome.processor.s12 ≡ 0)
+    × ((answer_to "ats12=007").outcome.processor.s12 ≡ 7)
+    × ((answer_to "ATS12=255").outcome.processor.s12 ≡ 255)
+    × ((answer_to "ATS12=255").outcome.reply ≡ One Ok)
+    × ((answer_to "ats12?").outcome.reply ≡ Two S12 Ok)
 unfolding answer_to
 s12-set = (refl, refl, refl, refl, refl, refl)
 
 -- other forms are ERROR: past 255, four digits, none, no digit, and the bare register
-pub s12-wrong : ((answer_to "ATS12=256").reply ≡ One Error)
-    × ((answer_to "ATS12=0050").reply ≡ One Error)
-    × ((answer_to "ATS12=").reply ≡ One Error)
-    × ((answer_to "ATS12=5X").reply ≡ One Error)
-    × ((answer_to "ATS12").reply ≡ One Error)
-    × ((answer_to "ATS12??").reply ≡ One Error)
-    × ((answer_to "ATS12=256").processor.s12 ≡ 50)
+pub s12-wrong : ((answer_to "ATS12=256").outcome.reply ≡ One Error)
+    × ((answer_to "ATS12=0050").outcome.reply ≡ One Error)
+    × ((answer_to "ATS12=").outcome.reply ≡ One Error)
+    × ((answer_to "ATS12=5X").outcome.reply ≡ One Error)
+    × ((answer_to "ATS12").outcome.reply ≡ One Error)
+    × ((answer_to "ATS12??").outcome.reply ≡ One Error)
+    × ((answer_to "ATS12=256").outcome.processor.s12 ≡ 50)
 unfolding answer_to
 s12-wrong = (refl, refl, refl, refl, refl, refl, refl)
 

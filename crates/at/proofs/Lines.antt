@@ -30,22 +30,22 @@ use Rattle.at.proofs.Sound.{parts}
 module _ (p : AtProcessor) (mode : command_mode p ≡ true) (carrier : Bool) (room : ℕ) where
   -- a byte other than LF and CR
   module _ (byte : ℕ) (lf : eqb byte (code "\n") ≡ false) (cr : eqb byte (code "\r") ≡ false) where
-    grown : line_of (typed_byte p byte carrier room).processor ≡ pushed (line_of p) byte
+    grown : line_of (typed_byte p byte carrier room).outcome.processor ≡ pushed (line_of p) byte
     unfolding typed_byte command_byte
     grown = rw (mode, lf, cr)
 
     -- stands at the end of a line that it did not run over
-    pub joins : length (line_of p).bytes ≡ 80 → ran_over (line_of (typed_byte p byte carrier room).processor) ≡ false
-        → typed (line_of (typed_byte p byte carrier room).processor) ≡ typed (line_of p) ++ (byte ∷ [])
+    pub joins : length (line_of p).bytes ≡ 80 → ran_over (line_of (typed_byte p byte carrier room).outcome.processor) ≡ false
+        → typed (line_of (typed_byte p byte carrier room).outcome.processor) ≡ typed (line_of p) ++ (byte ∷ [])
     joins long kept = rw grown (line.joins (line_of p) byte long (rw grown at kept))
 
     -- where it finds 80 it is dropped, and the line marked
     pub runs-over : 80 ≤ (line_of p).len
-        → (typed (line_of (typed_byte p byte carrier room).processor) ≡ typed (line_of p)) × (ran_over (line_of (typed_byte p byte carrier room).processor) ≡ true)
+        → (typed (line_of (typed_byte p byte carrier room).outcome.processor) ≡ typed (line_of p)) × (ran_over (line_of (typed_byte p byte carrier room).outcome.processor) ≡ true)
     runs-over full = rw grown (line.dropped (line_of p) byte full)
 
   -- LF leaves line and mark
-  pub line-feed : line_of (typed_byte p (code "\n") carrier room).processor ≡ line_of p
+  pub line-feed : line_of (typed_byte p (code "\n") carrier room).outcome.processor ≡ line_of p
   unfolding typed_byte command_byte
   line-feed = rw mode
 
@@ -56,16 +56,16 @@ module _ (p : AtProcessor) (mode : command_mode p ≡ true) (carrier : Bool) (ro
   error-on-return e over = rw (mode, ne_eqb _ 0 (line.marked-some (line_of p) (parts p e).line over), no-command (uppercased (line_of p)) over)
 
 -- ---- nothing else changes line or mark: in data mode a typed byte, forced data mode, and a lapse, whether it completes an escape or loses the carrier
-pub data-keeps-line : (p : AtProcessor) (byte : ℕ) (carrier : Bool) (room : ℕ) → command_mode p ≡ false → line_of (typed_byte p byte carrier room).processor ≡ line_of p
+pub data-keeps-line : (p : AtProcessor) (byte : ℕ) (carrier : Bool) (room : ℕ) → command_mode p ≡ false → line_of (typed_byte p byte carrier room).outcome.processor ≡ line_of p
 unfolding typed_byte data_byte
 data-keeps-line p byte carrier room mode = by_mode (command_mode p) mode
   where
-    go : (w r : Bool) → line_of (data_byte_if w r p).processor ≡ line_of p
+    go : (w r : Bool) → line_of (data_byte_if w r p).outcome.processor ≡ line_of p
     go true r = refl
     go false true = refl
     go false false = refl
 
-    by_mode : (m : Bool) → m ≡ false → line_of (typed_byte_if m p byte carrier room).processor ≡ line_of p
+    by_mode : (m : Bool) → m ≡ false → line_of (typed_byte_if m p byte carrier room).outcome.processor ≡ line_of p
     by_mode false e = go (withheld p byte) (ltb (pluses p) room)
     by_mode true e = let no : ◌≡◌ {A = ℕ} 0 1 = cc in absurd (omega arith)
 

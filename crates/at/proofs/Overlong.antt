@@ -29,10 +29,10 @@ OfALine (byte ∷ bytes) = ((eqb byte (code "\n") ≡ false) × (eqb byte (code 
 module _ (carrier : Bool) (room : ℕ) where
   abbrev pub after_bytes : List ℕ → AtProcessor → AtProcessor
   after_bytes [] p = p
-  after_bytes (byte ∷ bytes) p = after_bytes bytes (typed_byte p byte carrier room).processor
+  after_bytes (byte ∷ bytes) p = after_bytes bytes (typed_byte p byte carrier room).outcome.processor
 
   one_byte : (p : AtProcessor) (byte : ℕ) → command_mode p ≡ true → eqb byte (code "\n") ≡ false → eqb byte (code "\r") ≡ false
-      → (typed_byte p byte carrier room).processor ≡ with_line (pushed (line_of p) byte) p
+      → (typed_byte p byte carrier room).outcome.processor ≡ with_line (pushed (line_of p) byte) p
   unfolding typed_byte command_byte
   one_byte p byte mode lf cr = rw (mode, lf, cr)
 
@@ -44,7 +44,7 @@ module _ (carrier : Bool) (room : ℕ) where
 
   sound-after : (bytes : List ℕ) (p : AtProcessor) → sound p ≡ true → sound (after_bytes bytes p) ≡ true
   sound-after [] p e = e
-  sound-after (byte ∷ bytes) p e = sound-after bytes (typed_byte p byte carrier room).processor (sound-typed p byte carrier room e)
+  sound-after (byte ∷ bytes) p e = sound-after bytes (typed_byte p byte carrier room).outcome.processor (sound-typed p byte carrier room e)
 
   module _ (bytes : List ℕ) (line : OfALine bytes) (p : AtProcessor) (mode : command_mode p ≡ true) (empty : line_of p ≡ empty_line) where
     line-is : line_of (after_bytes bytes p) ≡ pushes bytes empty_line
@@ -58,9 +58,9 @@ module _ (carrier : Bool) (room : ℕ) where
     abbrev ended : Fed
     ended = typed_byte (after_bytes bytes p) (code "\r") carrier room
 
-    pub line-overlong : sound p ≡ true → 80 < length bytes → (ended.reply ≡ One Error) × (ended.control ≡ None) × (line_of ended.processor ≡ empty_line)
+    pub line-overlong : sound p ≡ true → 80 < length bytes → (ended.outcome.reply ≡ One Error) × (ended.outcome.control ≡ None) × (line_of ended.outcome.processor ≡ empty_line)
     line-overlong e many =
         let over : ran_over (line_of (after_bytes bytes p)) ≡ true = rw line-is ((overlong bytes).mark ∙ lt-ltb 80 (length bytes) many) in
         let command : command_mode (after_bytes bytes p) ≡ true = ap command_mode (all-bytes bytes p mode line) ∙ mode in
         let answer = error-on-return (after_bytes bytes p) command carrier room (sound-after bytes p e) over in
-        (ap (λ (f : Fed). f.reply) answer, ap (λ (f : Fed). f.control) answer, ap (λ (f : Fed). line_of f.processor) answer)
+        (ap (λ (f : Fed). f.outcome.reply) answer, ap (λ (f : Fed). f.outcome.control) answer, ap (λ (f : Fed). line_of f.outcome.processor) answer)

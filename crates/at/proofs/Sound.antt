@@ -6,9 +6,10 @@ use mathlib.Core.Path.{◌≡◌, refl}
 use mathlib.Core.List.{List}
 use mathlib.Core.Bool.{Bool, true, false, ◌&&◌, and-eq-true_iff}
 use lib.Dec.{leb, eqb}
+use Rattle.std.specs.Prelude.{Option, Some, None}
 use borrow.Author.Tests.{leb-true, leb-false, ltb-true, le-leb, lt-ltb}
 use Rattle.command.specs.declared.Command.{Command}
-use Rattle.command.specs.declared.Command.TheVariants.{At, Atz, Ati, Ata, Ath, Ato, Atdt, AskS12, SetS12, Unknown}
+use Rattle.command.specs.declared.Command.TheVariants.{At, Atz, Ati, Ata, Ath, Ato, Atdt, AskS12, SetS12}
 use Rattle.command.specs.Line.{sound_line}
 use Rattle.command.proofs.Pushed.{sound_empty, sound-pushed}
 use Rattle.at.specs.declared.AtProcessor.{AtProcessor}
@@ -47,21 +48,21 @@ with-ranges l r = record { line = l; ranges = r }
 
 -- a typed byte keeps it
 
-kept-executed : (command : Command) (carrier : Bool) (p : AtProcessor) → Sound p → Sound (executed command carrier p).processor
+kept-executed : (command : Option Command) (carrier : Bool) (p : AtProcessor) → Sound p → Sound (executed command carrier p).processor
 unfolding executed
-kept-executed At carrier p s = with-ranges s.line (omega arith)
-kept-executed Atz carrier p s = with-ranges s.line (omega arith)
-kept-executed Ati carrier p s = with-ranges s.line (omega arith)
-kept-executed Ata carrier p s = with-ranges s.line (omega arith)
-kept-executed Ath carrier p s = with-ranges s.line (omega arith)
-kept-executed Ato true p s = with-ranges s.line (omega arith)
-kept-executed Ato false p s = with-ranges s.line (omega arith)
-kept-executed Atdt carrier p s = with-ranges s.line (omega arith)
-kept-executed AskS12 carrier p s = with-ranges s.line (omega arith)
-kept-executed (SetS12 n) carrier p s = with-ranges s.line (omega arith)
-kept-executed Unknown carrier p s = with-ranges s.line (omega arith)
+kept-executed (Some At) carrier p s = with-ranges s.line (omega arith)
+kept-executed (Some Atz) carrier p s = with-ranges s.line (omega arith)
+kept-executed (Some Ati) carrier p s = with-ranges s.line (omega arith)
+kept-executed (Some Ata) carrier p s = with-ranges s.line (omega arith)
+kept-executed (Some Ath) carrier p s = with-ranges s.line (omega arith)
+kept-executed (Some Ato) true p s = with-ranges s.line (omega arith)
+kept-executed (Some Ato) false p s = with-ranges s.line (omega arith)
+kept-executed (Some Atdt) carrier p s = with-ranges s.line (omega arith)
+kept-executed (Some AskS12) carrier p s = with-ranges s.line (omega arith)
+kept-executed (Some (SetS12 n)) carrier p s = with-ranges s.line (omega arith)
+kept-executed None carrier p s = with-ranges s.line (omega arith)
 
-kept-typed : {p : AtProcessor} {byte : ℕ} {carrier : Bool} {room : ℕ} {f : Fed} {bytes : List ℕ} → Sound p → Typed p byte carrier room f bytes → Sound f.processor
+kept-typed : {p : AtProcessor} {byte : ℕ} {carrier : Bool} {room : ℕ} {f : Fed} {bytes : List ℕ} → Sound p → Typed p byte carrier room f bytes → Sound f.outcome.processor
 kept-typed s dropped = s
 kept-typed {carrier = carrier} s ends = kept-executed _ carrier _ (with-ranges sound_empty (omega arith))
 kept-typed {p} {byte} s grows = with-ranges (sound-pushed (line_of p) byte s.line) (omega arith)
@@ -69,7 +70,7 @@ kept-typed {p} {byte} s (waits w) = with-ranges s.line (omega (arith, withheld-f
 kept-typed s (sends r) = with-ranges s.line (omega arith)
 kept-typed s (declined r) = s
 
-pub sound-typed : (p : AtProcessor) (byte : ℕ) (carrier : Bool) (room : ℕ) → sound p ≡ true → sound (typed_byte p byte carrier room).processor ≡ true
+pub sound-typed : (p : AtProcessor) (byte : ℕ) (carrier : Bool) (room : ℕ) → sound p ≡ true → sound (typed_byte p byte carrier room).outcome.processor ≡ true
 sound-typed p byte carrier room e = whole _ (kept-typed (parts p e) (typed_byte_lem p byte carrier room))
 
 -- and so do a lapse and forced data mode

@@ -15,9 +15,8 @@ outcome p told asked = record { processor = p; reply = told; control = asked }
 
 -- a typed byte that has no reply, sends 0 bytes and ends no line
 abbrev pub quiet : AtProcessor → Fed
-quiet p = record { processor = p; reply = reply.None; control = None; sent = 0; line = empty_line }
+quiet p = record { outcome = outcome p reply.None None; sent = 0; line = empty_line }
 
 -- a typed byte that ended this line
 abbrev pub answered : Line → Outcome → Fed
-answered line o =
-    record { processor = o.processor; reply = o.reply; control = o.control; sent = 0; line = line }
+answered line o = record { outcome = o; sent = 0; line = line }

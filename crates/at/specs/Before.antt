@@ -1,10 +1,10 @@
 -- 02, E6: the processor as it was before S12: "All three guard comparisons" use 1 s, and no line is an S12 line. 01's definitions over the same
 -- record, of which they read no S12.
-use Rattle.std.specs.Prelude.{ℕ, List, [], Bool, true, false, ◌&&◌, ◌||◌, leb, ltb, eqb}
+use Rattle.std.specs.Prelude.{ℕ, List, [], Option, Some, None, Bool, true, false, ◌&&◌, ◌||◌, leb, ltb, eqb}
 use Prim.Native.Char.{code}
 use Rattle.command.specs.declared.Line.{Line}
 use Rattle.command.specs.declared.Command.{Command}
-use Rattle.command.specs.declared.Command.TheVariants.{At, Atz, Ati, Ata, Ath, Ato, Atdt, AskS12, SetS12, Unknown}
+use Rattle.command.specs.declared.Command.TheVariants.{At, Atz, Ati, Ata, Ath, Ato, Atdt, AskS12, SetS12}
 use Rattle.command.specs.Line.{empty_line, typed, ran_over, pushed, uppercased}
 use Rattle.command.specs.Command.{read, lines01, command_of}
 use Rattle.at.specs.declared.AtProcessor.{AtProcessor}
@@ -21,8 +21,8 @@ abbrev pub one_second : ℕ
 one_second = 1_000_000_000
 
 -- 01's commands
-unfoldable pub command_before : Line → Command
-command_before l = read (ran_over l) Unknown (lines01 (typed l) Unknown)
+unfoldable pub command_before : Line → Option Command
+command_before l = read (ran_over l) None (lines01 (typed l) None)
 
 -- 01's data mode
 unfoldable pub withheld_before : AtProcessor → ℕ → Bool
@@ -74,17 +74,17 @@ unfoldable pub lapse_before : AtProcessor → ℕ → Bool → Outcome
 lapse_before p ns carrier = polled (waited_before_if (command_mode p) p ns) ns carrier
 
 -- ---- an S12 line: one that sets it or asks for it. The other lines that begin so are ERROR, as in 01
-abbrev pub of_s12 : Command → Bool
-of_s12 AskS12 = true
-of_s12 (SetS12 n) = true
-of_s12 At = false
-of_s12 Atz = false
-of_s12 Ati = false
-of_s12 Ata = false
-of_s12 Ath = false
-of_s12 Ato = false
-of_s12 Atdt = false
-of_s12 Unknown = false
+abbrev pub of_s12 : Option Command → Bool
+of_s12 (Some AskS12) = true
+of_s12 (Some (SetS12 n)) = true
+of_s12 (Some At) = false
+of_s12 (Some Atz) = false
+of_s12 (Some Ati) = false
+of_s12 (Some Ata) = false
+of_s12 (Some Ath) = false
+of_s12 (Some Ato) = false
+of_s12 (Some Atdt) = false
+of_s12 None = false
 
 -- a typed byte that ends one
 unfoldable pub ends_s12_line : AtProcessor → ℕ → Bool

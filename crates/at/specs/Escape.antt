@@ -6,7 +6,7 @@ use Rattle.command.specs.Line.{empty_line}
 use Rattle.at.specs.declared.AtProcessor.{AtProcessor}
 use Rattle.at.specs.declared.Fed.{Fed}
 use Rattle.at.specs.Processor.{command_mode, pluses, with_mode, with_escape, added}
-use Rattle.at.specs.Answer.{quiet}
+use Rattle.at.specs.Answer.{outcome, quiet}
 
 -- S12 × 20 ms
 abbrev pub guard_time : AtProcessor → ℕ
@@ -33,8 +33,7 @@ released p byte = released_if (withheld p byte) p byte
 -- both zero idle; an outbox with no room for the bytes, which 01 declines, leaves all as it was
 abbrev pub data_byte_if : Bool → Bool → AtProcessor → Fed
 data_byte_if true room p = quiet (with_escape (pluses p + 1) 0 p)
-data_byte_if false true p =
-    record { processor = with_escape 0 0 p; reply = reply.None; control = None; sent = pluses p + 1; line = empty_line }
+data_byte_if false true p = record { outcome = outcome (with_escape 0 0 p) reply.None None; sent = pluses p + 1; line = empty_line }
 data_byte_if false false p = quiet p
 
 unfoldable pub data_byte : AtProcessor → ℕ → ℕ → Fed

@@ -58,12 +58,9 @@ pub struct Outcome {
 
 // The answer to a typed byte. `sent` counts the bytes put at the outbox's front. `line` is the line
 // that the byte ended, uppercased, or an empty one: a dial line's digits stand in it after ATDT.
-// An `Outcome` in place of its first three fields is no plainer: callers read them one by one.
 #[derive(Clone, Copy)]
 pub struct Fed {
-    pub processor: AtProcessor,
-    pub reply: Reply,
-    pub control: Option<Control>,
+    pub outcome: Outcome,
     pub sent: usize,
     pub line: Line,
 }
@@ -107,9 +104,10 @@ impl AtProcessor {
         ensures out_after { out.new ≡ put (sent self byte) out.old }
     {
         if self.in_command_mode {
-            return self.feed_command_byte(byte, carrier);
+            self.feed_command_byte(byte, carrier)
+        } else {
+            self.feed_data_byte(byte, out)
         }
-        self.feed_data_byte(byte, out)
     }
 
     // `ns` nanoseconds pass: an escape may be complete, the carrier may have come or gone.
@@ -219,7 +217,7 @@ impl AtProcessor {
         }
     }
 
-    #[tactic(auto, unfolding(crate::specs::At::ended))]
+    #[tactic(auto, unfolding(crate::specs::At::ended, crate::specs::Command::executed))]
     fn end_line(self, carrier: bool) -> Fed
         ensures { result ≡ ended self carrier }
     {
@@ -231,15 +229,12 @@ impl AtProcessor {
             cmd_buf: Line::new(),
             ..self
         };
-        let Outcome {
-            processor,
-            reply,
-            control,
-        } = emptied.execute(line.command(), carrier);
+        let outcome = match line.command() {
+            Some(command) => emptied.execute(command, carrier),
+            None => emptied.gives(Reply::One(Code::Error), None),
+        };
         Fed {
-            processor,
-            reply,
-            control,
+            outcome,
             sent: 0,
             line,
         }
@@ -247,7 +242,7 @@ impl AtProcessor {
 
     #[tactic(auto, unfolding(crate::specs::Command::executed))]
     fn execute(self, command: Command, carrier: bool) -> Outcome
-        ensures { result ≡ executed command carrier self }
+        ensures { result ≡ executed (Some command) carrier self }
     {
         match command {
             Command::At => self.gives(Reply::One(Code::Ok), None),
@@ -276,19 +271,19 @@ impl AtProcessor {
                 .gives(Reply::One(Code::Ok), Some(Control::Dial)),
             Command::AskS12 => self.gives(Reply::Two(Code::S12, Code::Ok), None),
             Command::SetS12(n) => AtProcessor { s12: n, ..self }.gives(Reply::One(Code::Ok), None),
-            Command::Unknown => self.gives(Reply::One(Code::Error), None),
         }
     }
 
     // ATO returns to a call that is still there.
     #[tactic(auto, unfolding(crate::specs::Command::executed))]
     fn resume(self, carrier: bool) -> Outcome
-        ensures { result ≡ executed Command.Ato carrier self }
+        ensures { result ≡ executed (Some Command.Ato) carrier self }
     {
         if carrier {
-            return self.go_online().gives(Reply::One(Code::Connect), None);
+            self.go_online().gives(Reply::One(Code::Connect), None)
+        } else {
+            self.gives(Reply::One(Code::Error), None)
         }
-        self.gives(Reply::One(Code::Error), None)
     }
 
     // The answer to a typed byte that needs none.
@@ -296,9 +291,7 @@ impl AtProcessor {
         ensures { result ≡ quiet self }
     {
         Fed {
-            processor: self,
-            reply: Reply::None,
-            control: None,
+            outcome: self.gives(Reply::None, None),
             sent: 0,
             line: Line::new(),
         }

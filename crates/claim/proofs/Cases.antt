@@ -21,11 +21,11 @@ use Rattle.at.proofs.Cases.{answer_to, atdt12, atdtabcdef, atdp1, at-dt1, sent_a
 
 pub record ProvingCases : Type 0 where
   -- ATDT12: digits 12
-  pub dial-12 : ((answer_to "ATDT12").control ≡ Some Dial) × (digits_of (after_atdt (answer_to "ATDT12")) ≡ ascii "12")
+  pub dial-12 : ((answer_to "ATDT12").outcome.control ≡ Some Dial) × (digits_of (after_atdt (answer_to "ATDT12")) ≡ ascii "12")
   -- atdtabcdef: ABCD
-  pub dial-abcd : ((answer_to "atdtabcdef").control ≡ Some Dial) × (digits_of (after_atdt (answer_to "atdtabcdef")) ≡ ascii "ABCD")
+  pub dial-abcd : ((answer_to "atdtabcdef").outcome.control ≡ Some Dial) × (digits_of (after_atdt (answer_to "atdtabcdef")) ≡ ascii "ABCD")
   -- ATDP1, AT DT1: ERROR
-  pub no-dial : ((answer_to "ATDP1").reply ≡ One Error) × ((answer_to "AT DT1").reply ≡ One Error)
+  pub no-dial : ((answer_to "ATDP1").outcome.reply ≡ One Error) × ((answer_to "AT DT1").outcome.reply ≡ One Error)
   -- plus at idle 1 s withheld, at 999,999,999 ns sent
   pub plus : (sent_after 1_000_000_000 (online fresh) ≡ []) × (sent_after 999_999_999 (online fresh) ≡ ascii "+")
   -- second plus 1,000,000,001 ns later: two sent

@@ -11,7 +11,7 @@ use lib.ListN.{length, take, length-append, length-set, length-replicate}
 use lib.Seq.{take_all, take-append-le, take-suc-set}
 use borrow.Author.Tests.{ltb-true, ltb-false, lt-ltb, le-ltb}
 use Rattle.command.specs.declared.Line.{Line}
-use Rattle.command.specs.declared.Command.TheVariants.{Unknown}
+use Rattle.std.specs.Prelude.{None}
 use Rattle.command.specs.Line.{empty_line, typed, ran_over, pushed, pushed_if}
 use Rattle.command.specs.Command.{command_of}
 
@@ -63,6 +63,6 @@ held_after before (b ∷ bytes) l h =
 pub overlong : (bytes : List ℕ) → Holds bytes (pushes bytes empty_line)
 overlong bytes = held_after [] bytes empty_line (record { array = length-replicate {A = ℕ} 80 0; number = refl; first = refl; mark = refl })
 
-pub no-command : (l : Line) → ran_over l ≡ true → command_of l ≡ Unknown
+pub no-command : (l : Line) → ran_over l ≡ true → command_of l ≡ None
 unfolding command_of
 no-command l over = rw over

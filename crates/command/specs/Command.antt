@@ -4,7 +4,7 @@ use Prim.Native.Char.{code}
 use Rattle.ascii.specs.Ascii.{ascii}
 use Rattle.command.specs.declared.Line.{Line}
 use Rattle.command.specs.declared.Command.{Command}
-use Rattle.command.specs.declared.Command.TheVariants.{At, Atz, Ati, Ata, Ath, Ato, Atdt, AskS12, SetS12, Unknown}
+use Rattle.command.specs.declared.Command.TheVariants.{At, Atz, Ati, Ata, Ath, Ato, Atdt, AskS12, SetS12}
 use Rattle.command.specs.Line.{typed, ran_over}
 
 -- a line that begins with a text, and one that is the text
@@ -17,22 +17,22 @@ unfoldable pub is : List ℕ → List ℕ → Bool
 is text line = eqb (length line) (length text) && begins text line
 
 -- this command if the test holds, else what is read next
-abbrev pub read : Bool → Command → Command → Command
+abbrev pub read : Bool → Option Command → Option Command → Option Command
 read true this next = this
 read false this next = next
 
 -- 01's lines, and what any other is
-abbrev pub lines01 : List ℕ → Command → Command
+abbrev pub lines01 : List ℕ → Option Command → Option Command
 lines01 line other =
-    read (is (ascii "AT") line) At
-    (read (is (ascii "ATZ") line) Atz
-    (read (is (ascii "ATI") line) Ati
-    (read (is (ascii "ATA") line) Ata
-    (read (is (ascii "ATH") line) Ath
-    (read (is (ascii "ATH0") line) Ath
-    (read (is (ascii "ATO") line) Ato
-    (read (is (ascii "ATO0") line) Ato
-    (read (begins (ascii "ATDT") line) Atdt other))))))))
+    read (is (ascii "AT") line) (Some At)
+    (read (is (ascii "ATZ") line) (Some Atz)
+    (read (is (ascii "ATI") line) (Some Ati)
+    (read (is (ascii "ATA") line) (Some Ata)
+    (read (is (ascii "ATH") line) (Some Ath)
+    (read (is (ascii "ATH0") line) (Some Ath)
+    (read (is (ascii "ATO") line) (Some Ato)
+    (read (is (ascii "ATO0") line) (Some Ato)
+    (read (begins (ascii "ATDT") line) (Some Atdt) other))))))))
 
 -- 02, E6: n with one to three decimal digits up to 255
 abbrev pub is_digit : ℕ → Bool
@@ -61,15 +61,15 @@ unfoldable pub is_setting : List ℕ → Bool
 is_setting n = (leb 1 (length n) && leb (length n) 3) && up_to255 n
 
 -- what stands after ATS12=
-unfoldable pub setting_of : List ℕ → Command
-setting_of n = read (is_setting n) (SetS12 (value_from 0 n)) Unknown
+unfoldable pub setting_of : List ℕ → Option Command
+setting_of n = read (is_setting n) (Some (SetS12 (value_from 0 n))) None
 
 -- ATS12=n sets it, ATS12? asks for it; other forms ERROR
-abbrev pub lines_s12 : List ℕ → Command
+abbrev pub lines_s12 : List ℕ → Option Command
 lines_s12 line =
-    read (is (ascii "ATS12?") line) AskS12
-    (read (begins (ascii "ATS12=") line) (setting_of (drop 6 line)) Unknown)
+    read (is (ascii "ATS12?") line) (Some AskS12)
+    (read (begins (ascii "ATS12=") line) (setting_of (drop 6 line)) None)
 
 -- 02, E1: a line that ran over is none of these
-unfoldable pub command_of : Line → Command
-command_of l = read (ran_over l) Unknown (lines01 (typed l) (lines_s12 (typed l)))
+unfoldable pub command_of : Line → Option Command
+command_of l = read (ran_over l) None (lines01 (typed l) (lines_s12 (typed l)))

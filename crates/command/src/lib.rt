@@ -6,8 +6,8 @@ ghost use Rattle.std.specs.Prelude.{◌≡◌, ◌-◌, MatchOption, true, false
 ghost use Rattle.command.specs.Line.{empty_line, typed, sound_line, pushed, uppercased};
 ghost use Rattle.command.specs.Command.{begins, is, is_digit, setting_of, number_in, command_of};
 
-// A command line: the first `len` of its bytes, and whether more were typed than it holds. C lends
-// its fields, so it is an array with a length and no `Vec`.
+// A command line: the first `len` of its bytes, and whether more were typed than it holds. There is
+// no heap, and `sound` has to tell of any length, so it is an array with a length and no `Vec`.
 #[derive(Clone, Copy)]
 pub struct Line {
     pub bytes: [u8; 80],
@@ -27,7 +27,6 @@ pub enum Command {
     Atdt,
     AskS12,
     SetS12(u8),
-    Unknown,
 }
 
 impl Line {
@@ -56,7 +55,8 @@ impl Line {
         self.bytes.get(..self.len).unwrap_or(&self.bytes)
     }
 
-    // One byte more. A full line drops it, and remembers that it ran over.
+    // One byte more. A full line drops it, and remembers that it ran over. By value, as 01 has it of
+    // the processor, which holds the line.
     #[tactic(auto, unfolding(crate::specs::Line::pushed))]
     pub fn push(mut self, byte: u8) -> Self
         ensures { result ≡ pushed self byte }
@@ -96,47 +96,44 @@ impl Line {
     // Which command an uppercased line is: at.rs's arms, and S12's lines. One that ran over is none.
     // A `match` on the bytes was tried: its last arm leaves 28 goals, which nothing closes.
     #[tactic(auto, unfolding(crate::specs::Command::command_of))]
-    pub fn command(self) -> Command
+    pub fn command(self) -> Option<Command>
         ensures { result ≡ command_of self }
     {
         if self.ran_over {
-            Command::Unknown
+            None
         } else if self.is(b"AT") {
-            Command::At
+            Some(Command::At)
         } else if self.is(b"ATZ") {
-            Command::Atz
+            Some(Command::Atz)
         } else if self.is(b"ATI") {
-            Command::Ati
+            Some(Command::Ati)
         } else if self.is(b"ATA") {
-            Command::Ata
+            Some(Command::Ata)
         } else if self.is(b"ATH") || self.is(b"ATH0") {
-            Command::Ath
+            Some(Command::Ath)
         } else if self.is(b"ATO") || self.is(b"ATO0") {
-            Command::Ato
+            Some(Command::Ato)
         } else if self.after(b"ATDT").is_some() {
-            Command::Atdt
+            Some(Command::Atdt)
         } else if self.is(b"ATS12?") {
-            Command::AskS12
+            Some(Command::AskS12)
         } else if let Some(digits) = self.after(b"ATS12=") {
             setting_of(digits)
         } else {
-            Command::Unknown
+            None
         }
     }
 }
 
 // What stands after ATS12=: one to three digits up to 255 are a setting.
 #[tactic(auto, unfolding(crate::specs::Command::setting_of, crate::specs::Command::is_setting))]
-fn setting_of(digits: &[u8]) -> Command
+fn setting_of(digits: &[u8]) -> Option<Command>
     ensures { result ≡ setting_of digits.now }
 {
     if digits.is_empty() || digits.len() > 3 {
-        return Command::Unknown;
+        return None;
     }
-    match decimal(digits) {
-        Some(value) => Command::SetS12(value),
-        None => Command::Unknown,
-    }
+    Some(Command::SetS12(decimal(digits)?))
 }
 
 // The number that decimal digits up to 255 are.

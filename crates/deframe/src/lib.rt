@@ -1,7 +1,7 @@
 // Bits back into bytes: one frame's inverse, and a reader that goes over a list of bits and keeps its place. A mark, 01's bit 1, is `true`.
 #![tactic(auto)]
 
-ghost use Rattle.std.specs.Prelude.{◌≡◌, ℕ, ◌+◌, ◌<◌, ◌≤◌, length, slice_set, fold, IfNone, IfSome};
+ghost use Rattle.std.specs.Prelude.{◌≡◌, ℕ, ◌<◌, length, fold};
 ghost use Rattle.frame.specs.Frame.{frame_of};
 ghost use Rattle.deframe.specs.Unframe.{unframe_of};
 ghost use Rattle.deframe.specs.Read.{is_mark, marks_of, shifted, idle_step, frame_step, step_of, read_of, answer_of, wrote_of};
@@ -34,8 +34,8 @@ pub struct Reading {
 // A frame's byte: `frame_byte` undone.
 pub fn unframe(bits: [bool; 10]) -> Result<u8, Refusal>
     ensures value { result ≡ unframe_of bits }
-    ensures by_index { (b : ℕ) → b < 256 → bits ≡ frame_of b → result ≡ Ok b }
-    ensures by_index_2 { (b : ℕ) → result ≡ Ok b → frame_of b ≡ bits }
+    ensures reads_a_frame { (b : ℕ) → b < 256 → bits ≡ frame_of b → result ≡ Ok b }
+    ensures reads_no_other { (b : ℕ) → result ≡ Ok b → frame_of b ≡ bits }
 {
     match (bits[0], bits[9]) {
         (false, true) => Ok(data_byte(&bits[1..9])),
@@ -62,18 +62,6 @@ fn shift(acc: u8, mark: bool) -> u8
     ensures { result ≡ shifted acc mark }
 {
     acc / 2 + if mark { 128 } else { 0 }
-}
-
-// A byte into its place of a buffer, if there is one, and the place after it.
-fn put(out: &mut [u8], at: usize, byte: u8) -> Option<usize>
-    ensures none { IfNone result ((length out.old ≤ at) × (out.new ≡ out.old)) }
-    ensures some { IfSome result (λ next. (at < length out.old) × (next ≡ at + 1) × (out.new ≡ slice_set out.old at byte)) }
-{
-    if at >= out.len() {
-        return None;
-    }
-    out[at] = byte;
-    Some(at + 1)
 }
 
 impl Deframer {
@@ -139,7 +127,8 @@ impl Deframer {
         None
     }
 
-    // A list of bits: all are taken, or those before the bit that would give a byte more than the buffer has room for.
+    // A list of bits: all are taken, or those before the bit that would give a byte more than the buffer has room for. By value, as
+    // 02 has it: "the same bytes and place" come of any split into calls.
     pub fn read(self, bits: &[u8], out: &mut [u8]) -> Reading
         ensures value { result ≡ answer_of (read_of (length out.old) self (marks_of bits.now)) }
         ensures out_after { out.new ≡ wrote_of (read_of (length out.old) self (marks_of bits.now)) out.old }
@@ -151,16 +140,15 @@ impl Deframer {
         for (taken, bit) in bits.iter().enumerate() {
             let mut next = place;
             if let Some(byte) = next.push_bit(is_mark(*bit)) {
-                match put(out, given, byte) {
-                    Some(next_place) => given = next_place,
-                    None => {
-                        return Reading {
-                            place,
-                            taken,
-                            given,
-                        };
-                    }
+                if given >= out.len() {
+                    return Reading {
+                        place,
+                        taken,
+                        given,
+                    };
                 }
+                out[given] = byte;
+                given += 1;
             }
             place = next;
         }

@@ -21,7 +21,8 @@ fn data_bit(b: u8, index: u32) -> bool
     (b >> index) % 2 == 1
 }
 
-// A byte's frame: a space to start, the data bits lowest first, a mark to stop.
+// A byte's frame: a space to start, the data bits lowest first, a mark to stop. Written out: `array::from_fn` was tried, but its
+// contract leads the closure's state from call to call, and a proof along that chain is longer than these ten rows.
 #[tactic(auto, unfolding(crate::specs::Frame::frame_of))]
 pub fn frame_byte(b: u8) -> [bool; 10]
     ensures { result ≡ frame_of b }

@@ -9,7 +9,7 @@ use native.Mathlib.Omega.{arith}
 use lib.Dec.{T, leb, ltb, leb→le, nleb→lt, lit<, lit≤}
 use lib.Arith.{le→nltb}
 use lib.Pow.{pow-add, pow_pos, pow_mono, shl_lt}
-use lib.Ieee.{Float, nan, inf, fin, binary32, binary64, up, down, size, units, round, to_bits, of_bits, of_fields, fits, eq, nan_bits}
+use lib.Ieee.{Float, nan, inf, fin, binary32, binary64, up, down, size, units, round, to_bits, of_bits, of_fields, fits, is_nan, nan_bits}
 use lib.Ieee.Bits.{of_bits-to_bits, nan_bits_above}
 use lib.Ieee.Digits.{size-le}
 use lib.Ieee.Fits.{round_is, round-fits, down_pos, nearest-le}
@@ -218,7 +218,7 @@ narrowed-nan : float.zero ≡ narrowed nan
 unfolding narrowed
 narrowed-nan = refl
 
-pub narrow-nan : (x : Float) → eq x x ≡ false → float.zero ≡ narrowed x
+pub narrow-nan : (x : Float) → is_nan x ≡ true → float.zero ≡ narrowed x
 narrow-nan x e = narrowed-nan ∙ ap narrowed (sym (is-nan x e))
 
 pub sign_le : (b : Bool) → cond b (2 ^ 31) 0 ≤ 2 ^ 31

@@ -8,9 +8,8 @@ use native.Mathlib.Omega.{arith}
 use lib.Pow.{pow-add, pow_pos, pow_mono, shl_lt}
 use lib.Dec.{T, leb, eqb, eqb→eq, lit≤}
 use lib.IntN.{ℤ, pos, negsuc}
-use lib.Ieee.{Float, nan, inf, fin, Format, binary32, binary64, prec, low, up, down, size, hid, top, odd, to_bits, of_bits, of_fields, fits, eq, ne}
+use lib.Ieee.{Float, nan, inf, fin, Format, binary32, binary64, prec, low, up, down, size, hid, top, odd, to_bits, of_bits, of_fields, fits, is_nan, eq}
 use lib.Ieee.Bits.{of_bits-to_bits}
-use lib.Ieee.Compare.{differs_from_itself}
 use lib.Ieee.Digits.{size-lt, size-le}
 use lib.Ieee.Fits.{down_pos}
 use lib.Ieee.Exact.{HasValue, odd_sign}
@@ -175,6 +174,14 @@ unfolding fits
 zero_exponent s e h = unit-exponent e (eqb→eq (up e * down e) 1 h)
 
 -- ---- `x == x`
-pub is-nan : (x : Float) → eq x x ≡ false → x ≡ nan
-unfolding ne
-is-nan x e = differs_from_itself x (subst (λ (b : Bool). T (not b)) (sym e) tt)
+pub not-nan : (x : Float) → eq x x ≡ true → T (not (is_nan x))
+unfolding eq is_nan
+not-nan nan e = absurd (false≢true e)
+not-nan (inf s) e = tt
+not-nan (fin s m d) e = tt
+
+pub is-nan : (x : Float) → is_nan x ≡ true → x ≡ nan
+unfolding is_nan
+is-nan nan e = refl
+is-nan (inf s) e = absurd (false≢true e)
+is-nan (fin s m n) e = absurd (false≢true e)

@@ -8,7 +8,7 @@ use native.Mathlib.Nat.{le_trans, le_of_eq, le_of_lt, mod-eq_of_lt, le_of_suc-le
 use native.Mathlib.Omega.{arith}
 use lib.Dec.{T, ltb, ltb→lt, lit<, lit≤}
 use lib.Pow.{pow-add, pow_pos, pow_mono, shl_lt}
-use lib.Ieee.{Float, nan, inf, fin, binary64, up, down, of_fields, to_bits, fits, eq}
+use lib.Ieee.{Float, nan, inf, fin, binary64, up, down, of_fields, to_bits, fits, is_nan}
 use lib.Ieee.Fits.{down_pos}
 use lib.Ieee.Exact.{HasValue}
 use lib.Ieee.Nearest.{div_same}
@@ -164,7 +164,7 @@ nan-gives : 0 ≡ twice nan
 unfolding twice
 nan-gives = refl
 
-pub cut-nan : (x : Float) → eq x x ≡ false → 0 ≡ twice x
+pub cut-nan : (x : Float) → is_nan x ≡ true → 0 ≡ twice x
 cut-nan x e = nan-gives ∙ ap twice (sym (is-nan x e))
 
 -- the results are small

@@ -1,15 +1,17 @@
 // The numbers of 01, "Floats": S and E for libm's `sin` and `exp`, `floor` and `round` worked out from bits, and `as f32`.
 #![tactic(auto)]
 
-ghost use Rattle.std.specs.Prelude.{◌≡◌, cond, ◌&&◌, ◌<◌, ◌≤◌, ◌^◌, ◌/◌, ◌%◌, leb};
+ghost use Rattle.std.specs.Prelude.{◌≡◌, fold as folded_by, cond, ◌&&◌, ◌<◌, ◌≤◌, ◌^◌, ◌/◌, ◌%◌, leb};
 ghost use Rattle.std.specs.Float.Ieee.{le, lt};
 ghost use Rattle.std.specs.Float.Ieee.Nearest.{closest};
-ghost use Rattle.math.specs.Float.{zero, tau};
+ghost use Rattle.math.specs.Float.{zero, one, tau};
 ghost use Rattle.math.specs.Sine.{lowered, folded, stepped, quarter_wave, signed, full_wave, sine};
 ghost use Rattle.math.specs.Decay.{squared, decay};
 ghost use Rattle.math.specs.Whole.{floor_of, round_of};
 ghost use Rattle.math.specs.Narrow.{narrowed};
 ghost use Rattle.math.specs.Steps.{twice, narrow_bits};
+
+use std::cmp::Ordering;
 
 pub const TAU: f64 = 6.283185307179586;
 
@@ -37,18 +39,18 @@ fn fold(y: f64) -> f64
     if y > Q { H - y } else { y }
 }
 
+// The step for each divisor in turn, from 1. The compiler unrolls it, and two sines keep the lanes of one division.
+fn series(z: f64, divisors: &[f64]) -> f64
+    ensures { result ≡ folded_by (stepped z) one divisors.now }
+{
+    divisors.iter().fold(1.0, |p, c| series_step(p, z, *c))
+}
+
 #[tactic(auto, unfolding(crate::specs::Sine::quarter_wave, crate::specs::Sine::series))]
 fn quarter_wave(y: f64) -> f64
     ensures { result ≡ quarter_wave y }
 {
-    let z = y * y;
-    let a = series_step(1.0, z, 210.0);
-    let b = series_step(a, z, 156.0);
-    let c = series_step(b, z, 110.0);
-    let d = series_step(c, z, 72.0);
-    let e = series_step(d, z, 42.0);
-    let f = series_step(e, z, 20.0);
-    y * series_step(f, z, 6.0)
+    y * series(y * y, &[210.0, 156.0, 110.0, 72.0, 42.0, 20.0, 6.0])
 }
 
 fn sign(x: f64, r: f64) -> f64
@@ -61,7 +63,7 @@ fn sign(x: f64, r: f64) -> f64
 pub fn phase_in_range(x: f64) -> bool
     ensures { result ≡ (le zero x && lt x tau) }
 {
-    (x >= 0.0) & (x < TAU)
+    x >= 0.0 && x < TAU
 }
 
 // S without its guard.
@@ -96,24 +98,20 @@ fn sin_rares(a: f64, b: f64) -> (f64, f64)
 pub fn sin_both(a: f64, b: f64) -> (f64, f64)
     ensures { (result.0 ≡ sine a) × (result.1 ≡ sine b) }
 {
-    if phase_in_range(a) & phase_in_range(b) {
-        return (full_wave(a), full_wave(b));
+    if phase_in_range(a) && phase_in_range(b) {
+        (full_wave(a), full_wave(b))
+    } else {
+        sin_rares(a, b)
     }
-    sin_rares(a, b)
 }
 
-#[tactic(auto, unfolding(crate::specs::Decay::squared))]
-fn square_eight_times(p: f64) -> f64
+fn square_eight_times(mut p: f64) -> f64
     ensures { result ≡ squared 8 p }
 {
-    let a = p * p;
-    let b = a * a;
-    let c = b * b;
-    let d = c * c;
-    let e = d * d;
-    let f = e * e;
-    let g = f * f;
-    g * g
+    for _ in 0..8_u8 {
+        p = p * p;
+    }
+    p
 }
 
 // 01's E: the exponential of -u.
@@ -122,21 +120,18 @@ pub fn exp(u: f64) -> f64
     ensures { result ≡ decay u }
 {
     if u >= 0.0 && u < 8.0 {
-        let w = u / 256.0;
-        let a = series_step(1.0, w, 4.0);
-        let b = series_step(a, w, 3.0);
-        let c = series_step(b, w, 2.0);
-        return square_eight_times(series_step(c, w, 1.0));
+        square_eight_times(series(u / 256.0, &[4.0, 3.0, 2.0, 1.0]))
+    } else {
+        0.0
     }
-    0.0
 }
 
 // Twice x without its fraction, from x's bits: floor and round both follow from it.
 fn double(x: f64) -> u64
     ensures { result ≡ twice x }
 {
-    if x == x {
-        let b = f64::to_bits(x);
+    if !x.is_nan() {
+        let b = x.to_bits();
         if b < 0x8000_0000_0000_0000 {
             let e = b / 0x10_0000_0000_0000;
             if e < 1022 {
@@ -165,32 +160,31 @@ pub fn round(x: f64) -> u64
 
 // a / b to the nearest whole number, a tie to the even one.
 fn nearest(a: u64, b: u64) -> u64
-    requires fact_1 { 0 < b }
-    requires fact_2 { b ≤ 2 ^ 62 }
-    requires fact_3 { a < 2 ^ 62 }
+    requires divisor { 0 < b }
+    requires divisor_bound { b ≤ 2 ^ 62 }
+    requires dividend_bound { a < 2 ^ 62 }
     ensures { result ≡ closest a b }
 {
     let q = a / b;
     let r = a % b * 2;
-    if r < b {
-        return q;
+    match r.cmp(&b) {
+        Ordering::Less => q,
+        Ordering::Equal => q + q % 2,
+        Ordering::Greater => q + 1,
     }
-    if r == b {
-        return q + q % 2;
-    }
-    q + 1
 }
 
 // The bits of a result below the `f32`'s normal range, from the exponent's field and the digits of the `f64`.
 fn narrow_subnormal(e: u64, t: u64) -> u64
-    requires fact_1 { e < 897 }
-    requires fact_2 { t < 2 ^ 52 }
+    requires below_normal { e < 897 }
+    requires digits { t < 2 ^ 52 }
     ensures { result ≡ narrow_bits e t }
 {
     if e >= 873 {
-        return nearest(0x10_0000_0000_0000 + t, 1 << (926 - e));
+        nearest(0x10_0000_0000_0000 + t, 1 << (926 - e))
+    } else {
+        0
     }
-    0
 }
 
 // The `f32` bits of the `f64` bits m, below 2, neither with a sign. In the normal range one sum rebiases the exponent and rounds.
@@ -199,9 +193,10 @@ fn narrow_bits(m: u64) -> u64
     ensures { result ≡ narrow_bits (m / 2 ^ 52) (m % 2 ^ 52) }
 {
     if m >= 0x3810_0000_0000_0000 {
-        return (m - 0x37ff_ffff_f000_0001 + m / 0x2000_0000 % 2) / 0x2000_0000;
+        (m - 0x37ff_ffff_f000_0001 + m / 0x2000_0000 % 2) / 0x2000_0000
+    } else {
+        narrow_subnormal(m / 0x10_0000_0000_0000, m % 0x10_0000_0000_0000)
     }
-    narrow_subnormal(m / 0x10_0000_0000_0000, m % 0x10_0000_0000_0000)
 }
 
 // The sign's bit in an `f32`.
@@ -219,8 +214,8 @@ fn sign_bit(b: u64) -> u64
 pub fn narrow(x: f64) -> f32
     ensures { result ≡ narrowed x }
 {
-    if x == x {
-        let b = f64::to_bits(x);
+    if !x.is_nan() {
+        let b = x.to_bits();
         let m = b % 0x8000_0000_0000_0000;
         if m < 0x4000_0000_0000_0000 {
             let p = sign_bit(b) + narrow_bits(m);

@@ -10,7 +10,7 @@ use crate::Nco;
 pub fn next_lent(nco: &mut Nco) -> f64
     ensures { (result ≡ lent_sample nco.old) × (nco.new ≡ lent_nco nco.old) }
 {
-    if crate::phase_in_range(nco.phase) & crate::phase_in_range(nco.step) {
+    if crate::phase_in_range(nco.phase) && crate::phase_in_range(nco.step) {
         nco.next()
     } else {
         0.0

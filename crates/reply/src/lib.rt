@@ -60,8 +60,8 @@ impl TryFrom<u8> for Code {
 }
 
 impl Code {
-    // Writes the code's text at the front of `out` and answers its length; S12's is `s12`. A short
-    // `out` gives 0 and stays as it was.
+    // Writes the code's text at the front of `out` and answers its length; S12's is `s12`. By 01 a
+    // short `out` gives 0 and stays as it was.
     #[tactic(auto, unfolding(crate::specs::Texts::text_of))]
     pub fn write(self, s12: u8, out: &mut [u8]) -> usize
         ensures value { result ≡ put_length (text_of (number_of self) s12) (length out.old) }
@@ -110,8 +110,8 @@ fn digits(s12: u8) -> [u8; 3]
     [b'0' + s12 / 100, b'0' + s12 / 10 % 10, b'0' + s12 % 10]
 }
 
-// Writes the text of the code with this number at the front of `out` and answers its length. A
-// short `out` or another number gives 0 and leaves `out` as it was.
+// Writes the text of the code with this number at the front of `out` and answers its length. By 01
+// a short `out` or another number gives 0 and leaves `out` as it was.
 pub fn write_reply(code: u8, s12: u8, out: &mut [u8]) -> usize
     ensures value { result ≡ put_length (text_of code s12) (length out.old) }
     ensures out_after { out.new ≡ put (text_of code s12) out.old }

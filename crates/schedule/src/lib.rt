@@ -49,7 +49,7 @@ pub const TRAINING_BITS: u16 = 300;
 pub fn seconds(n: u32, rate: u32) -> f64
     ensures { result ≡ time_at rate n }
 {
-    n as f64 / rate as f64
+    f64::from(n) / f64::from(rate)
 }
 
 // R(duration): how many samples duration seconds are.
@@ -57,11 +57,11 @@ pub fn seconds(n: u32, rate: u32) -> f64
 pub fn stage_samples_for(duration: f64, rate: u32) -> u64
     ensures { result ≡ samples_in duration rate }
 {
-    math::round(duration * rate as f64)
+    math::round(duration * f64::from(rate))
 }
 
 // Which digit, and whether its tone or the gap after it.
-#[derive(Clone, Copy)]
+#[derive(Clone, Copy, PartialEq, Eq)]
 pub struct DiallingPhase {
     pub digit: u64,
     pub tone: bool,
@@ -90,12 +90,14 @@ fn dialling_end(digits: u64, rate: Rate) -> u64
     let place = digits * rate.hertz as u64 / 5;
     let phase = dialling_phase(seconds(place as u32, rate.hertz));
     if phase.digit < digits {
-        return place + 1;
+        place + 1
+    } else {
+        place
     }
-    place
 }
 
-// How many samples so many digits are; 0 for a rate or a number of digits that no call has.
+// How many samples so many digits are; 0 for a rate or a number of digits that no call has. No Option: each caller has both
+// within their limits, and would only take it apart.
 pub fn dialling_samples(digits: u64, rate: u32) -> u64
     ensures { result ≡ dialling_samples rate digits }
 {
@@ -110,7 +112,7 @@ pub fn dialling_samples(digits: u64, rate: u32) -> u64
 pub fn ringback_gate(time: f64) -> bool
     ensures { result ≡ ring_tone time }
 {
-    (time < RING_ON_S) | ((time >= RING_ON_S + RING_OFF_S) & (time < 1.0))
+    time < RING_ON_S || (time >= RING_ON_S + RING_OFF_S && time < 1.0)
 }
 
 // Which ring, and how long ago it began.
@@ -125,12 +127,13 @@ pub fn ring_progress(t: f64) -> RingProgress
     ensures { (result.ring ≡ ring_at t) × (result.time ≡ ring_time t) }
 {
     if t >= RING_CYCLE_S {
-        return RingProgress {
+        RingProgress {
             ring: 2,
             time: t - RING_CYCLE_S,
-        };
+        }
+    } else {
+        RingProgress { ring: 1, time: t }
     }
-    RingProgress { ring: 1, time: t }
 }
 
 // ANSam's phase reversals.
@@ -139,9 +142,10 @@ pub fn reversal_sign(t: f64) -> f64
     ensures { result ≡ sign_at t }
 {
     if math::floor(t / ANSAM_REVERSAL_S) % 2 == 0 {
-        return 1.0;
+        1.0
+    } else {
+        -1.0
     }
-    -1.0
 }
 
 // 300 / r
@@ -149,7 +153,7 @@ pub fn reversal_sign(t: f64) -> f64
 pub fn symbol_step(rate: u32) -> f64
     ensures { result ≡ symbol_step rate }
 {
-    BAUD / rate as f64
+    BAUD / f64::from(rate)
 }
 
 // The symbol clock after one more sample: its phase, and whether a bit is done, which a bare pair would not name.
@@ -165,13 +169,14 @@ pub fn tick(phase: f64, step: f64) -> Ticked
 {
     let x = phase + step;
     if x >= 1.0 {
-        return Ticked {
+        Ticked {
             phase: x - 1.0,
             done: true,
-        };
-    }
-    Ticked {
-        phase: x,
-        done: false,
+        }
+    } else {
+        Ticked {
+            phase: x,
+            done: false,
+        }
     }
 }

@@ -18,8 +18,9 @@ impl Rate {
         ensures { MatchOption result (is_rate hertz ≡ false) (λ rate. rate.hertz ≡ hertz) }
     {
         if (MIN_RATE..=MAX_RATE).contains(&hertz) {
-            return Some(Rate { hertz });
+            Some(Rate { hertz })
+        } else {
+            None
         }
-        None
     }
 }

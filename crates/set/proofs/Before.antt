@@ -43,7 +43,7 @@ module _ (s : Set) where
     abbrev fed : Fed
     fed = typed_byte_before s.processor byte (heard s.session carrier) n
 
-    pub typed-is-01s : ((set_typed s (typed_before s byte carrier n)).processor ≡ fed.processor) × (reply_typed (typed_before s byte carrier n) ≡ fed.reply) × (sent_typed (typed_before s byte carrier n) ≡ fed.sent)
+    pub typed-is-01s : ((set_typed s (typed_before s byte carrier n)).processor ≡ fed.outcome.processor) × (reply_typed (typed_before s byte carrier n) ≡ fed.outcome.reply) × (sent_typed (typed_before s byte carrier n) ≡ fed.sent)
     unfolding typed_before
     typed-is-01s = let e = taken-answer (typing_cause s n) (byte_typed_before s byte carrier n) taken in (rw e, rw e, rw e)
 

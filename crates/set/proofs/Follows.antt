@@ -188,7 +188,7 @@ module _ (r : ℕ) (k : Book) (s : Set) (inv : Invariant r k s) where
       (by-cause r k s inv cause _ (byte_typed s byte carrier n) (λ (a : Typed). a.set) keyless_of []
       (typing-never-6 (leb 4 n))
       (λ _. record {
-        follows = rw (same-fed r k s inv.follows byte carrier n) (applies r k s inv.follows (fed_by k byte carrier n).control _ _ few);
+        follows = rw (same-fed r k s inv.follows byte carrier n) (applies r k s inv.follows (fed_by k byte carrier n).outcome.control _ _ few);
         sound = byte-sound s inv.sound byte carrier n;
         number = refl;
         limits = (few, sound-typed k.processor byte (heard_in k.state carrier) n good);

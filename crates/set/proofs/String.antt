@@ -18,12 +18,12 @@ use Rattle.at.specs.declared.Fed.{Fed}
 use Rattle.at.specs.Processor as processor
 use Rattle.at.specs.At.{sent, after_atdt}
 use Rattle.at.proofs.Outbox.{at-most-four, sent-count, sent-first, room-alike}
-use Rattle.control.specs.Control.{heard, controlled}
+use Rattle.control.specs.Control.{heard}
 use Rattle.set.specs.declared.Set.{Set}
 use Rattle.set.specs.declared.Typed.{Typed}
 use Rattle.set.specs.Refusals.{Checked, cause_of_string, accepted, checked}
 use Rattle.set.specs.Sound.{sound}
-use Rattle.set.specs.Set.{s12_of, moved, sending_for, typing_cause, byte_typed, typed, outbox, set_typed, reply_typed, sent_typed}
+use Rattle.set.specs.Set.{s12_of, obeyed, typing_cause, byte_typed, typed, outbox, set_typed, reply_typed, sent_typed}
 use Rattle.set.specs.String.{four, set_by, put_by, sent_by, codes_by, string_cause, at_front}
 use Rattle.set.proofs.Ranges.{ranges}
 use Rattle.set.proofs.Soundness.{byte-sound}
@@ -34,7 +34,7 @@ module _ (s : Set) (ok : sound s ≡ true) (byte : ℕ) (carrier : Bool) where
   good = (ranges s ok).processor
 
   abbrev typed_of : Fed → Typed
-  typed_of fed = record { set = moved s fed.processor (controlled fed.control s.session (after_atdt fed) s.rate) (sending_for fed.control s.sending); reply = fed.reply; sent = fed.sent }
+  typed_of fed = record { set = obeyed s fed.outcome (after_atdt fed); reply = fed.outcome.reply; sent = fed.sent }
 
   pub taken-alike : (n : ℕ) → 4 ≤ n → byte_typed s byte carrier n ≡ byte_typed s byte carrier 4
   taken-alike n l = ap typed_of (room-alike s.processor good byte (heard s.session carrier) n l)

@@ -4,20 +4,20 @@ use Rattle.std.specs.Prelude.{ℕ, Bool, List, [], length, Result}
 use Rattle.ascii.specs.Front.{put}
 use Rattle.at.specs.At.{after_atdt}
 use Rattle.at.specs.Before.{typed_byte_before, sent_before, lapse_before}
-use Rattle.control.specs.Control.{heard, controlled}
+use Rattle.control.specs.Control.{heard}
 use Rattle.refusal.specs.declared.Refusal.{Refusal}
 use Rattle.set.specs.declared.Set.{Set}
 use Rattle.set.specs.declared.Typed.{Typed}
 use Rattle.set.specs.declared.Lapsed.{Lapsed}
 use Rattle.set.specs.Refusals.{if_accepted, answered}
-use Rattle.set.specs.Set.{moved, sending_for, typing_cause, lapse_cause}
+use Rattle.set.specs.Set.{obeyed, typing_cause, lapse_cause}
 
 abbrev pub byte_typed_before : Set → ℕ → Bool → ℕ → Typed
 byte_typed_before s byte carrier n =
     let fed = typed_byte_before s.processor byte (heard s.session carrier) n in
     record {
-      set = moved s fed.processor (controlled fed.control s.session (after_atdt fed) s.rate) (sending_for fed.control s.sending);
-      reply = fed.reply;
+      set = obeyed s fed.outcome (after_atdt fed);
+      reply = fed.outcome.reply;
       sent = fed.sent;
     }
 
@@ -30,7 +30,7 @@ outbox_before s byte was = if_accepted (typing_cause s (length was)) (put (sent_
 abbrev pub time_lapsed_before : Set → ℕ → Bool → Lapsed
 time_lapsed_before s ns carrier =
     let o = lapse_before s.processor ns (heard s.session carrier) in
-    record { set = moved s o.processor (controlled o.control s.session [] s.rate) (sending_for o.control s.sending); reply = o.reply }
+    record { set = obeyed s o []; reply = o.reply }
 
 unfoldable pub lapsed_before : Set → ℕ → Bool → Result Lapsed Refusal
 lapsed_before s ns carrier = answered (lapse_cause s) (time_lapsed_before s ns carrier)

@@ -125,7 +125,7 @@ unless_declined (Err cause) entry = declined cause
 unfoldable pub entry_of : Book → Call → Entry
 entry_of k (typing byte carrier room) =
     let fed = fed_by k byte carrier room in
-    unless_declined (cause_of_typing true (leb 4 room)) (asks fed.control (after_atdt fed) fed.processor)
+    unless_declined (cause_of_typing true (leb 4 room)) (asks fed.outcome.control (after_atdt fed) fed.outcome.processor)
 entry_of k (time ns carrier) = asks (lapsed_by k ns carrier).control [] (lapsed_by k ns carrier).processor
 entry_of k forcing = asks None [] (forced_data k.processor)
 entry_of k (filling b) = unless_declined (cause_of_fill true (ltb 65536 b)) (fills b)

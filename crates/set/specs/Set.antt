@@ -7,6 +7,7 @@ use Rattle.reply.specs.declared.Reply.{Reply}
 use Rattle.reply.specs.declared.Reply.TheVariants as reply
 use Rattle.at.specs.declared.AtProcessor.{AtProcessor}
 use Rattle.at.specs.declared.Control.{Control}
+use Rattle.at.specs.declared.Outcome.{Outcome}
 use Rattle.at.specs.declared.Control.TheVariants.{Dial, Answer, Hangup}
 use Rattle.at.specs.Processor.{fresh}
 use Rattle.at.specs.At.{typed_byte, sent, after_atdt, lapse, forced_data}
@@ -47,6 +48,10 @@ sending_for (Some Dial) x = emptied x
 sending_for (Some Answer) x = emptied x
 sending_for (Some Hangup) x = emptied x
 
+-- the processor after a call, and what it asks of the call control done; a dial line has these bytes after ATDT
+abbrev pub obeyed : Set → Outcome → List ℕ → Set
+obeyed s o dialled = moved s o.processor (controlled o.control s.session dialled s.rate) (sending_for o.control s.sending)
+
 -- creation: a rate outside limits gives a fresh set at 8,000
 unfoldable pub creation_cause : ℕ → Checked
 creation_cause r = cause_of_creation (rate_ok r)
@@ -61,12 +66,12 @@ typing_cause s n = cause_of_typing (sound s) (leb 4 n)
 abbrev pub byte_taken : Set → ℕ → Bool → ℕ → Set
 byte_taken s byte carrier n =
     let fed = typed_byte s.processor byte (heard s.session carrier) n in
-    moved s fed.processor (controlled fed.control s.session (after_atdt fed) s.rate) (sending_for fed.control s.sending)
+    obeyed s fed.outcome (after_atdt fed)
 
 abbrev pub byte_typed : Set → ℕ → Bool → ℕ → Typed
 byte_typed s byte carrier n =
     let fed = typed_byte s.processor byte (heard s.session carrier) n in
-    record { set = byte_taken s byte carrier n; reply = fed.reply; sent = fed.sent }
+    record { set = byte_taken s byte carrier n; reply = fed.outcome.reply; sent = fed.sent }
 
 unfoldable pub typed : Set → ℕ → Bool → ℕ → Result Typed Refusal
 typed s byte carrier n = answered (typing_cause s n) (byte_typed s byte carrier n)
@@ -82,7 +87,7 @@ lapse_cause s = cause_of_sound (sound s)
 abbrev pub time_taken : Set → ℕ → Bool → Set
 time_taken s ns carrier =
     let o = lapse s.processor ns (heard s.session carrier) in
-    moved s o.processor (controlled o.control s.session [] s.rate) (sending_for o.control s.sending)
+    obeyed s o []
 
 abbrev pub time_lapsed : Set → ℕ → Bool → Lapsed
 time_lapsed s ns carrier = record { set = time_taken s ns carrier; reply = (lapse s.processor ns (heard s.session carrier)).reply }

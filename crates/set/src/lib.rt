@@ -3,16 +3,17 @@
 // call that is declined changes nothing.
 #![tactic(auto)]
 
-ghost use Rattle.std.specs.Prelude.{◌≡◌, ◌*◌, ◌≤◌, true, length};
+ghost use Rattle.std.specs.Prelude.{◌≡◌, ◌*◌, ◌≤◌, true, length, drop};
 ghost use Rattle.ascii.specs.Front.{put};
+ghost use Rattle.command.specs.Line as command_line;
 ghost use Rattle.at.specs.At.{sent};
 ghost use Rattle.at.specs.Processor.{command_mode};
 ghost use Rattle.set.specs.Refusals.{cause_of_sound};
 ghost use Rattle.set.specs.Sound.{sound};
-ghost use Rattle.set.specs.Set.{s12_of, fresh_set, creation_cause, made, typing_cause, byte_typed, typed, outbox, sending_for, lapsed, forced, is_up_in, raised_if, fill_cause, fill, buffer, queuing_cause, byte_queued, rung};
+ghost use Rattle.set.specs.Set.{s12_of, obeyed, fresh_set, creation_cause, made, typing_cause, byte_typed, typed, outbox, sending_for, lapsed, forced, is_up_in, raised_if, fill_cause, fill, buffer, queuing_cause, byte_queued, rung};
 ghost use Rattle.set.specs.String.{set_by, sent_by, codes_by, at_front, string_cause, typed_all, outbox_all, codes_all};
 
-use at::{AtProcessor, Control};
+use at::{AtProcessor, Control, Outcome};
 use command::Line;
 use keys::{Digits, Key};
 use refusal::Refusal;
@@ -187,31 +188,29 @@ impl Set {
     }
 
     // The byte alone, with no check: `feed_all` checks once for all of its bytes.
+    #[tactic(auto, unfolding(control::specs::Control::heard))]
     fn take_byte(self, byte: u8, carrier: bool, out: &mut [u8]) -> Typed
         ensures value { result ≡ byte_typed self byte carrier (length out.old) }
         ensures out_after { out.new ≡ put (sent self.processor byte) out.old }
     {
-        let processor = self.processor;
-        let session = self.session;
-        let state = session.state;
-        let heard = control::heard_in(state, carrier);
-        let fed = processor.feed(byte, heard, out);
-        let next = fed.processor;
-        let reply = fed.reply;
-        let asked = fed.control;
-        let line = fed.line;
-        let moved = control::apply(asked, session, line, self.rate);
-        let waiting = self.sending;
-        let sending = sending_for(asked, waiting);
+        let heard = control::heard_in(self.session.state, carrier);
+        let fed = self.processor.feed(byte, heard, out);
         Typed {
-            set: Set {
-                processor: next,
-                session: moved,
-                sending,
-                ..self
-            },
-            reply,
+            set: self.after(fed.outcome, fed.line),
+            reply: fed.outcome.reply,
             sent: fed.sent,
+        }
+    }
+
+    // The processor moved on, and what it asks of the call control done. A dial line has its digits after ATDT.
+    fn after(self, outcome: Outcome, line: Line) -> Set
+        ensures { result ≡ obeyed self outcome (drop 4 (command_line.typed line)) }
+    {
+        Set {
+            processor: outcome.processor,
+            session: control::apply(outcome.control, self.session, line, self.rate),
+            sending: sending_for(outcome.control, self.sending),
+            ..self
         }
     }
 
@@ -279,26 +278,11 @@ impl Set {
         ensures { result ≡ lapsed self ns carrier }
     {
         self.sound_cause()?;
-        let processor = self.processor;
-        let session = self.session;
-        let state = session.state;
-        let heard = control::heard_in(state, carrier);
-        let o = processor.advance_time(ns, heard);
-        let next = o.processor;
-        let reply = o.reply;
-        let asked = o.control;
-        let line = Line::new();
-        let moved = control::apply(asked, session, line, self.rate);
-        let waiting = self.sending;
-        let sending = sending_for(asked, waiting);
+        let heard = control::heard_in(self.session.state, carrier);
+        let lapsed = self.processor.advance_time(ns, heard);
         Ok(Lapsed {
-            set: Set {
-                processor: next,
-                session: moved,
-                sending,
-                ..self
-            },
-            reply,
+            set: self.after(lapsed, Line::new()),
+            reply: lapsed.reply,
         })
     }
 

@@ -162,17 +162,20 @@ impl StageState {
     pub fn shown(self, digits: &[u8]) -> Shown
         ensures { result ≡ shown_of self digits.now }
     {
-        let stage = self.stage();
-        let key = self.key(digits);
-        Shown { stage, key }
+        Shown {
+            stage: self.stage(),
+            key: self.key(digits),
+        }
     }
 
     // What is shown before it, where no sample was made: its stage, and no key.
     pub fn waiting(self) -> Shown
         ensures { result ≡ waiting_of self }
     {
-        let stage = self.stage();
-        Shown { stage, key: None }
+        Shown {
+            stage: self.stage(),
+            key: None,
+        }
     }
 }
 
@@ -181,7 +184,7 @@ impl StageState {
 pub fn enter_state(stage: Stage, digits: &[u8], rate: u32) -> StageState
     ensures { result ≡ enter_of stage digits.now rate }
 {
-    let r = rate as f64;
+    let r = f64::from(rate);
     match stage {
         Stage::OffHook => StageState::OffHook {
             rng: OFF_HOOK_SEED,
@@ -194,13 +197,11 @@ pub fn enter_state(stage: Stage, digits: &[u8], rate: u32) -> StageState
         }
         Stage::Dialling => {
             let key = tones::digit_tones(digits, 0);
-            let a = Nco::new(key.low, r);
-            let b = Nco::new(key.high, r);
             StageState::Dialling {
                 digit_i: 0,
                 in_tone: true,
-                a,
-                b,
+                a: Nco::new(key.low, r),
+                b: Nco::new(key.high, r),
                 n: 0,
             }
         }
@@ -214,27 +215,18 @@ pub fn enter_state(stage: Stage, digits: &[u8], rate: u32) -> StageState
                 ring: 1,
             }
         }
-        Stage::Ci => {
-            let fsk = FskChannel::new(&frame::CI_PAYLOAD, rate);
-            StageState::Ci(fsk)
-        }
+        Stage::Ci => StageState::Ci(FskChannel::new(&frame::CI_PAYLOAD, rate)),
         Stage::Ansam => {
             let carrier = Nco::new(ANSAM_FREQ, r);
             let env = Nco::new(ANSAM_AM_FREQ, r);
             StageState::Ansam { carrier, env, n: 0 }
         }
-        Stage::CmJm => {
-            let fsk = FskChannel::new(&frame::CMJM_PAYLOAD, rate);
-            StageState::CmJm(fsk)
-        }
-        Stage::Cj => {
-            let fsk = FskChannel::new(&frame::CJ_PAYLOAD, rate);
-            StageState::Cj { fsk, silence_n: 0 }
-        }
-        Stage::Training => {
-            let fsk = FskChannel::new(&frame::TRAINING_PAYLOAD, rate);
-            StageState::Training(fsk)
-        }
+        Stage::CmJm => StageState::CmJm(FskChannel::new(&frame::CMJM_PAYLOAD, rate)),
+        Stage::Cj => StageState::Cj {
+            fsk: FskChannel::new(&frame::CJ_PAYLOAD, rate),
+            silence_n: 0,
+        },
+        Stage::Training => StageState::Training(FskChannel::new(&frame::TRAINING_PAYLOAD, rate)),
         Stage::Connected => StageState::Connected,
     }
 }

@@ -46,6 +46,7 @@ pub struct Dial {
     pub b: Nco,
 }
 
+// A sample, what is dialled after it, and whether that was the last: the first two are there in both cases, so no Option.
 #[derive(Drop)]
 pub struct Dialled {
     pub sample: f64,
@@ -105,9 +106,10 @@ pub fn gated(on: bool, a: Nco, b: Nco) -> Mixed
     ensures { result ≡ gated_of on a b }
 {
     if on {
-        return two_tones(a, b);
+        two_tones(a, b)
+    } else {
+        Mixed { sample: 0.0, a, b }
     }
-    Mixed { sample: 0.0, a, b }
 }
 
 impl From<Option<Tones>> for KeyTones {
@@ -144,17 +146,18 @@ pub fn dialled_key(digits: &[u8], i: u64, tone: bool) -> Option<Key>
     ensures { result ≡ dialled_key digits.now i tone }
 {
     if tone {
-        return digit_tones(digits, i).key;
+        digit_tones(digits, i).key
+    } else {
+        None
     }
-    None
 }
 
 // Whether the pair of digit and tone stays: at the end, or where it did not change.
 #[tactic(auto, unfolding(crate::specs::Dial::pair_stays))]
-fn pair_stays(d: u64, phase: DiallingPhase, dial: &Dial) -> bool
-    ensures { result ≡ pair_stays d phase.digit phase.tone dial.now.digit dial.now.tone }
+fn pair_stays(d: u64, phase: DiallingPhase, last: DiallingPhase) -> bool
+    ensures { result ≡ pair_stays d phase.digit phase.tone last.digit last.tone }
 {
-    (phase.digit >= d) | ((phase.digit == dial.digit) & (phase.tone == dial.tone))
+    phase.digit >= d || phase == last
 }
 
 // A changed pair is taken over, with fresh oscillators if in tone.
@@ -162,24 +165,24 @@ fn pair_stays(d: u64, phase: DiallingPhase, dial: &Dial) -> bool
 fn take_over(stays: bool, phase: DiallingPhase, dial: Dial, digits: &[u8], rate: u32) -> Dial
     ensures { result ≡ taken_over stays phase.digit phase.tone dial digits.now rate }
 {
+    let DiallingPhase { digit, tone } = phase;
     if stays {
-        return dial;
-    }
-    let digit = phase.digit;
-    if phase.tone {
+        dial
+    } else if tone {
         let tones = digit_tones(digits, digit);
-        let r = rate as f64;
-        return Dial {
+        let rate = f64::from(rate);
+        Dial {
             digit,
-            tone: true,
-            a: Nco::new(tones.low, r),
-            b: Nco::new(tones.high, r),
-        };
-    }
-    Dial {
-        digit,
-        tone: false,
-        ..dial
+            tone,
+            a: Nco::new(tones.low, rate),
+            b: Nco::new(tones.high, rate),
+        }
+    } else {
+        Dial {
+            digit,
+            tone,
+            ..dial
+        }
     }
 }
 
@@ -196,16 +199,13 @@ pub fn dial_step(dial: Dial, n: u32, digits: &[u8], rate: u32) -> Dialled
             finished: true,
         };
     }
-    let p = gated(dial.tone, dial.a, dial.b);
+    let Dial { digit, tone, a, b } = dial;
+    let Mixed { sample, a, b } = gated(tone, a, b);
     let phase = schedule::dialling_phase(schedule::seconds(n, rate));
-    let stays = pair_stays(d, phase, &dial);
-    let played = Dial {
-        a: p.a,
-        b: p.b,
-        ..dial
-    };
+    let stays = pair_stays(d, phase, DiallingPhase { digit, tone });
+    let played = Dial { digit, tone, a, b };
     Dialled {
-        sample: p.sample,
+        sample,
         dial: take_over(stays, phase, played, digits, rate),
         finished: phase.digit >= d,
     }

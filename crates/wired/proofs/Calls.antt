@@ -251,7 +251,7 @@ module _ (r : ℕ) (ok : rate_ok r ≡ true) (s : Set) (t : Table) (h : SinceDia
     unfolding heard
     same-fed = rw (at.follows.processor, at.follows.state)
 
-    reply-is : set.reply_typed typed ≡ either (accepted (checked typed)) (fed_by t.book value carrier n).reply None
+    reply-is : set.reply_typed typed ≡ either (accepted (checked typed)) (fed_by t.book value carrier n).outcome.reply None
     unfolding set.typed
     reply-is =
         told-if (set.typing_cause s n) (λ (a : Typed). a.reply) None (set.byte_typed s value carrier n)
@@ -287,8 +287,8 @@ module _ (r : ℕ) (ok : rate_ok r ≡ true) (s : Set) (t : Table) (h : SinceDia
     typing-by : (a : Result Typed Refusal) → typed ≡ a → Typing a
     unfolding accepted
     typing-by (Ok x) is =
-        let reply : x.reply ≡ (fed_by t.book value carrier n).reply =
-        subst (λ (a : Result Typed Refusal). set.reply_typed a ≡ either (accepted (checked a)) (fed_by t.book value carrier n).reply None) is reply-is in
+        let reply : x.reply ≡ (fed_by t.book value carrier n).outcome.reply =
+        subst (λ (a : Result Typed Refusal). set.reply_typed a ≡ either (accepted (checked a)) (fed_by t.book value carrier n).outcome.reply None) is reply-is in
         let on : ListInvariant r x.set (entered r t.book (typing value carrier n)) (claim-answers.since_next r t.book h call) =
         subst (λ (a : Result Typed Refusal). ListInvariant r (set.set_typed s a) (entered r t.book (typing value carrier n)) (claim-answers.since_next r t.book h call)) is inside_on in
         record {
@@ -296,8 +296,8 @@ module _ (r : ℕ) (ok : rate_ok r ≡ true) (s : Set) (t : Table) (h : SinceDia
           set = on;
           chip = ap uart.emptied
               (ap (λ (reply : Reply). uart.moved c x.set reply carrier) reply
-              ∙ moved-stands r s t at.follows few x.set (entered r t.book (typing value carrier n)) (fed_by t.book value carrier n).reply carrier on.follows);
-          short = few-wait (joined_by t (fed_by t.book value carrier n).reply (entered r t.book (typing value carrier n)));
+              ∙ moved-stands r s t at.follows few x.set (entered r t.book (typing value carrier n)) (fed_by t.book value carrier n).outcome.reply carrier on.follows);
+          short = few-wait (joined_by t (fed_by t.book value carrier n).outcome.reply (entered r t.book (typing value carrier n)));
           number = subst (λ (a : Result Typed Refusal). answer_number (checked a) ≡ number) is told-inside.number;
           sent = subst (λ (a : Result Typed Refusal). set.sent_typed a ≡ either (accepted (checked a)) (fed_by t.book value carrier n).sent 0) is sent_is;
           inside = refl;

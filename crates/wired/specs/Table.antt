@@ -134,7 +134,7 @@ now_pending t = with_registers (with_pending true t.registers) t
 
 abbrev pub typed_on : ℕ → Table → ℕ → Bool → ℕ → Table
 typed_on r t value carrier room =
-    now_pending (moved_on t (entered r t.book (typing value carrier room)) (fed_by t.book value carrier room).reply carrier)
+    now_pending (moved_on t (entered r t.book (typing value carrier room)) (fed_by t.book value carrier room).outcome.reply carrier)
 
 abbrev pub written_to : (address : ℕ) → ℕ → Table → ℕ → Bool → ℕ → Table
 written_to zero r t value carrier room = if_typed t value carrier room (typed_on r t value carrier room) t

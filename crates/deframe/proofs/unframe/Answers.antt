@@ -11,12 +11,12 @@ unfolding unframe_of
 returns-in-false-true c =
     let ten : length c.args.bits ≡ 10 = search rules in
     let p = both_ways _ ten _ (rw (c.in-false-true.is-0, c.in-false-true.is-1, c.data_byte.ensures, data-shifted-in c.args.bits ten)) in
-    record { value = p.0; by_index = p.1.0; by_index_2 = p.1.1 }
+    record { value = p.0; reads_a_frame = p.1.0; reads_no_other = p.1.1 }
 
 pub returns-in_default : goal.returns-in_default
 unfolding unframe_of
-returns-in_default c = let p = both_ways _ (search rules) _ (rw c.in_default.is-0) in record { value = p.0; by_index = p.1.0; by_index_2 = p.1.1 }
+returns-in_default c = let p = both_ways _ (search rules) _ (rw c.in_default.is-0) in record { value = p.0; reads_a_frame = p.1.0; reads_no_other = p.1.1 }
 
 pub returns-in_default-2 : goal.returns-in_default-2
 unfolding unframe_of
-returns-in_default-2 c = let p = both_ways _ (search rules) _ (rw (c.in_default.is-0, c.in_default.is-1)) in record { value = p.0; by_index = p.1.0; by_index_2 = p.1.1 }
+returns-in_default-2 c = let p = both_ways _ (search rules) _ (rw (c.in_default.is-0, c.in_default.is-1)) in record { value = p.0; reads_a_frame = p.1.0; reads_no_other = p.1.1 }

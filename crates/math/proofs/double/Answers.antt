@@ -1,4 +1,5 @@
 -- `double` meets its contract: the pattern's fields say whether the value is below a half, in range, too large, negative or no number. Assumes nothing.
+use mathlib.Core.Path.{sym, ◌∙◌}
 use Rattle.math.proofs.Whole.{cut_small, cut-middle, cut-large, cut-negative, cut-nan}
 use Rattle.std.proofs.lemmas.Float.{T_from_true}
 use Rattle.math.proofs.double.Goals as goal
@@ -15,5 +16,5 @@ returns-else-e-lt1074 c = cut-large c.args.x (T_from_true _ c.well_formed.0.1) c
 pub returns-else-b-lt9223372036854775808 : goal.returns-else-b-lt9223372036854775808
 returns-else-b-lt9223372036854775808 c = cut-negative c.args.x (T_from_true _ c.well_formed.0.1) c.if-b-lt9223372036854775808.false
 
-pub returns-else-x : goal.returns-else-x
-returns-else-x c = cut-nan c.args.x c.if-x.false
+pub returns-else-not-is_nan : goal.returns-else-not-is_nan
+returns-else-not-is_nan c = cut-nan c.args.x (sym c.is_nan.ensures.value ∙ c.if-not-is_nan.false)

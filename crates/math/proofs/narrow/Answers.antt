@@ -42,5 +42,5 @@ returns-then-m-lt4611686018427387904 c = rw (c.sign_bit.ensures, narrowed-bits (
 pub returns-else-m-lt4611686018427387904 : goal.returns-else-m-lt4611686018427387904
 returns-else-m-lt4611686018427387904 c = zero-narrow ∙ narrow-large c.args.x (T_from_true _ c.well_formed.0.1) (field-large _ c.if-m-lt4611686018427387904.false)
 
-pub returns-else-x : goal.returns-else-x
-returns-else-x c = zero-narrow ∙ narrow-nan c.args.x c.if-x.false
+pub returns-else-not-is_nan : goal.returns-else-not-is_nan
+returns-else-not-is_nan c = zero-narrow ∙ narrow-nan c.args.x (sym c.is_nan.ensures.value ∙ c.if-not-is_nan.false)

@@ -7,13 +7,13 @@ use Prim.Native.Nat.{◌-◌, ◌≤◌}
 use native.Mathlib.Omega.{arith}
 use Rattle.math.proofs.narrow_subnormal.Goals as goal
 
-pub nearest-requires-clause-fact_2 : goal.nearest-requires-clause-fact_2
-nearest-requires-clause-fact_2 c = let h : 926 - c.args.e ≤ 62 = omega arith in rw (one_shl (926 - c.args.e) 64 (omega arith)) (pow_mono h)
+pub nearest-requires-clause-divisor_bound : goal.nearest-requires-clause-divisor_bound
+nearest-requires-clause-divisor_bound c = let h : 926 - c.args.e ≤ 62 = omega arith in rw (one_shl (926 - c.args.e) 64 (omega arith)) (pow_mono h)
 
 pub returns-then-e-ge873 : goal.returns-then-e-ge873
 unfolding narrow_bits
-returns-then-e-ge873 c = rw (lt-leb _ _ c.requires.fact_1, le-leb _ _ c.if-e-ge873.true, c.nearest.ensures, one_shl (926 - c.args.e) 64 (omega arith))
+returns-then-e-ge873 c = rw (lt-leb _ _ c.requires.below_normal, le-leb _ _ c.if-e-ge873.true, c.nearest.ensures, one_shl (926 - c.args.e) 64 (omega arith))
 
-pub returns : goal.returns
+pub returns-else-e-ge873 : goal.returns-else-e-ge873
 unfolding narrow_bits
-returns c = rw (lt-leb _ _ c.requires.fact_1, lt-leb _ _ c.if-e-ge873.false)
+returns-else-e-ge873 c = rw (lt-leb _ _ c.requires.below_normal, lt-leb _ _ c.if-e-ge873.false)

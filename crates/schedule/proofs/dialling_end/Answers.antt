@@ -10,6 +10,6 @@ pub returns-then-phase-digits : goal.returns-then-phase-digits
 returns-then-phase-digits c =
     sym (dialling-after _ c.args.rate.slow c.args.rate.fast _ c.requires (omega (arith, c.if-digits-eq0.false)) _ (omega arith) (omega arith) (rw (c.dialling_phase-phase.ensures.0, c.seconds.ensures) at c.if-phase-digits.true))
 
-pub returns : goal.returns
-returns c =
+pub returns-else-phase-digits : goal.returns-else-phase-digits
+returns-else-phase-digits c =
     sym (dialling-there _ c.args.rate.slow c.args.rate.fast _ c.requires (omega (arith, c.if-digits-eq0.false)) _ (omega arith) (omega arith) (rw (c.dialling_phase-phase.ensures.0, c.seconds.ensures) at c.if-phase-digits.false))
