@@ -1,4 +1,5 @@
--- What a line of fields comes to. Assumes nothing.
+-- The law of the reader of lines: what a program makes of the numbers that are told at the end of any line is what the line's fields ask for (`numbers-asked`,
+-- and `letter-asked` where it begins with a letter). From where the reader stands it comes to the fields that are left, byte by byte (`ends`). Assumes nothing.
 use Prim.Native.Nat.{ℕ, zero, suc, ◌+◌, ◌-◌, ◌*◌, ◌^◌, ◌<◌, ◌≤◌, min, zero-le}
 use mathlib.Core.Bool.{Bool, true, false, and-eq-true_iff}
 use mathlib.Core.List.{List, [], ◌∷◌, ◌++◌, append_assoc, foldl, map}
