@@ -1,14 +1,14 @@
 -- Bit patterns. The pattern of q * 2 ^ k units of a format is k * hid + q, with the sign's bit; a binary64 value is its sign, its exponent's field and its digits. Assumes nothing.
 use mathlib.Core.Path.{◌≡◌, refl, sym, ap, ◌∙◌, subst}
 use mathlib.Core.Logic.{◌⊎◌, inl, inr}
-use mathlib.Core.Bool.{Bool, true, false, not, cond}
+use mathlib.Core.Bool.{Bool, true, false, cond, false≢true}
 use Prim.Native.Nat.{ℕ, zero, suc, ◌+◌, ◌-◌, ◌*◌, ◌/◌, ◌%◌, ◌^◌, ◌≤◌, ◌<◌}
 use native.Mathlib.Nat.{sub-eq-zero_of_le, ne_of_lt, le_trans, le_of_eq, le_antisymm, le_of_suc-le-suc, lt_of_lt_of_le, lt_of_not-le, not-le_of_lt, eq-or-lt_of_le, mul-div_cancel, mul_comm, mul_assoc, mul-one, one-mul, div-one, div-lt_iff_lt-mul, pow-suc, pow-succ', mul-le-mul_right, mod-lt, add_assoc, suc-mul}
 use native.Mathlib.Omega.{arith}
 use lib.Pow.{pow-add, pow_pos, pow_mono, shl_lt}
 use lib.Dec.{T, leb, eqb, eqb→eq, lit≤}
 use lib.IntN.{ℤ, pos, negsuc}
-use lib.Ieee.{Float, nan, inf, fin, Format, binary32, binary64, prec, low, up, down, size, hid, top, odd, to_bits, of_bits, of_fields, fits, is_nan, eq}
+use lib.Ieee.{Float, nan, inf, fin, Format, binary32, binary64, prec, low, up, down, size, hid, top, odd, to_bits, of_bits, of_fields, fits, is_nan}
 use lib.Ieee.Bits.{of_bits-to_bits}
 use lib.Ieee.Digits.{size-lt, size-le}
 use lib.Ieee.Fits.{down_pos}
@@ -174,12 +174,6 @@ unfolding fits
 zero_exponent s e h = unit-exponent e (eqb→eq (up e * down e) 1 h)
 
 -- ---- `x == x`
-pub not-nan : (x : Float) → eq x x ≡ true → T (not (is_nan x))
-unfolding eq is_nan
-not-nan nan e = absurd (false≢true e)
-not-nan (inf s) e = tt
-not-nan (fin s m d) e = tt
-
 pub is-nan : (x : Float) → is_nan x ≡ true → x ≡ nan
 unfolding is_nan
 is-nan nan e = refl
