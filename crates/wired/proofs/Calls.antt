@@ -255,7 +255,7 @@ module _ (r : ℕ) (ok : rate_ok r ≡ true) (s : Set) (t : Table) (h : SinceDia
     unfolding set.typed
     reply-is =
         told-if (set.typing_cause s n) (λ (a : Typed). a.reply) None (set.byte_typed s value carrier n)
-        ∙ rw (checked-is (set.typing_cause s n) (set.byte_typed s value carrier n), same-fed)
+        ∙ rw (checked-is (set.typing_cause s n) (set.byte_typed s value carrier n), ← same-fed)
 
     sent_is : set.sent_typed typed ≡ either (accepted (checked typed)) (fed_by t.book value carrier n).sent 0
     unfolding set.typed
