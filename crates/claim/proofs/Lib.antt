@@ -12,3 +12,4 @@ pub mod WorkedSent
 pub mod Cases
 pub mod Before
 pub mod Contracts
+pub mod Exits

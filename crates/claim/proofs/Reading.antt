@@ -7,6 +7,7 @@ use mathlib.Core.List.{List, [], ◌∷◌, ◌++◌, map}
 use mathlib.Core.Logic.{◌⊎◌, ◌↔◌}
 use lib.Ieee.{Float, binary32, to_bits, of_bits}
 use lib.ListN.{length, replicate, take}
+use borrow.Author.Tests.{le-ltb}
 use Rattle.std.specs.Prelude.{Some, None}
 use Rattle.reply.specs.declared.Reply.TheVariants as reply
 use Rattle.at.specs.declared.AtProcessor.{AtProcessor}
@@ -30,11 +31,11 @@ use Rattle.refusal.specs.Refusal.{answer_number}
 use Rattle.set.specs.Set.{s12_of, made}
 use Rattle.set.specs.Before.{typed_before, outbox_before, lapsed_before}
 use Rattle.set.specs.String.{at_front}
-use Rattle.set.specs.Book.{Book, declined, asks, queues, blank, overture, length_of, declined_with, key_answered, entered}
+use Rattle.set.specs.Book.{Book, declined, asks, queues, entry_of, blank, overture, length_of, declined_with, key_answered, entered}
 use Rattle.set.specs.Event.{Event, typed_event, lapsed_event, forced_event, filled_event, queued_event, Unchanged, StringEvent, StringUnchanged}
 use Rattle.claim.specs.Trace.{Trace, set_after}
 use Rattle.claim.specs.Sent.{Sent}
-use Rattle.claim.specs.Claim.{SinceDial, not_called, noted_fill, noted, AllAtMost, NeverBack, Reports, Answered, AllAnswered, book_after, since_after, Played}
+use Rattle.claim.specs.Claim.{SinceDial, not_called, noted_fill, noted, AllAtMost, NeverBack, Reports, Answered, AllAnswered, book_after, since_next, since_after, Played}
 use Rattle.claim.specs.Strings.{Step, single, string, set_of, History, last_set, cause_of, singles, sent_in, codes_in, all_singles, calls_of, all_calls, StringAnswered, StepAnswered, AllStepsAnswered, Claim}
 use Rattle.claim.specs.Before.{NoS12Line, AsBefore, AllAsBefore}
 use Rattle.claim.proofs.Joined.{book-joined}
@@ -300,3 +301,18 @@ module _ (r : ℕ) (k : Book) (left : List Float) (stage : ℕ) (h : SinceDial) 
   -- and a byte where it is queued
   pub byte-queued : (state : SessionState) (byte : ℕ) → (noted (queues byte) r k left state stage h).sent.queued ≡ h.sent.queued ++ (byte ∷ [])
   byte-queued state byte = refl
+
+-- and of a fill's event it is what the lent buffer holds at the call's exit, whatever that is: it joins the overture's in Dialling, and, 02, E10, the
+-- sender's in Connected
+module _ (r : ℕ) (s : Set) (k : Book) (h : SinceDial) (was left : List Float) (few : length was ≤ 65536) (a : Result Filled Refusal) where
+  pub exit-joined : k.state ≡ Dialling → (since_next r k h (filled_event s was left a)).joined ≡ h.joined ++ left
+  unfolding entry_of
+  exit-joined dialling = rw (le-ltb 65536 (length was) few, dialling)
+
+  pub exit-length : k.state ≡ Dialling → (since_next r k h (filled_event s was left a)).lengths ≡ h.lengths + length was
+  unfolding entry_of
+  exit-length dialling = rw (le-ltb 65536 (length was) few, dialling)
+
+  pub exit-sent : k.state ≡ Connected → (since_next r k h (filled_event s was left a)).sent.filled ≡ h.sent.filled ++ left
+  unfolding entry_of
+  exit-sent connected = rw (le-ltb 65536 (length was) few, connected)

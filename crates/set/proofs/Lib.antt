@@ -13,3 +13,5 @@ pub mod Cases
 pub mod Before
 pub mod Lit
 pub mod Promises
+pub mod Told
+pub mod Declining
