@@ -14,6 +14,21 @@ pub fn has_word(words: &impl Env, place: usize) -> bool {
     !matches!(words.arg(place, &mut front), Err(FillError::NotPresent))
 }
 
+// Whether a program that takes no argument was started with one, which it then says. No equation is to be had: a
+// program's words and standard error are handles, whose contracts tell no bytes.
+pub fn refuses_words(words: &impl Env, errors: &impl Print, program: &str, input: &str) -> bool {
+    let refused = has_word(words, 1);
+    if refused {
+        let mut line = Page::<128>::new();
+        let _ = writeln!(
+            line,
+            "{program}: it takes no argument; its {input} come on standard input"
+        );
+        let _ = errors.write_all(line.text());
+    }
+    refused
+}
+
 // Writes a line to standard error: what failed, as the caller names it, a colon and the system's word for why.
 pub fn fail(errors: &impl Print, what: &[u8], why: io::Error) {
     let mut word = Page::<320>::new();
