@@ -2,11 +2,12 @@
 #![tactic(auto)]
 
 use console::stream;
+use panel::Form;
 
 fn main(rt: HostRuntime) {
     let errors = rt.stderr();
     if stream::refuses_words(&rt, &errors, "wall", "lines") {
         return;
     }
-    panel::run(&mut rt.stdin(), &rt, &errors, false, false);
+    panel::run(&mut rt.stdin(), &rt, &errors, Form::Wall);
 }
