@@ -79,12 +79,8 @@ fn put_frame(answers: &mut Answers, answer: Result<u8, Refusal>) {
 
 // The buffer's first `n` bytes, in hexadecimal.
 fn put_front(answers: &mut Answers, bytes: &[u8], n: usize) {
-    if n == 0 {
-        answers.put_byte(b'-');
-    } else if n <= bytes.len() {
-        for byte in &bytes[..n] {
-            answers.put_hex(*byte as u64, 2);
-        }
+    if n <= bytes.len() {
+        answers.put_bytes(&bytes[..n]);
     }
 }
 
