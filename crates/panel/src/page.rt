@@ -57,7 +57,7 @@ fn put_sent(answers: &mut Answers, set: Set, outbox: &[u8], sent: usize) {
     put_front(answers, outbox, sent);
 }
 
-// Its row and its column.
+// Its row and its column. call and calls write their own: what the three share is text, which knows no key.
 fn put_key(answers: &mut Answers, key: Option<Key>) {
     match key {
         Some(Key { row, column }) => {

@@ -168,6 +168,7 @@ fn spell(out: &mut [u8], number: u64, base: u64)
     ensures { out.new ≡ last_digits base (length out.old) number }
 {
     let mut rest = number;
+    // By place: over `iter_mut().rev()` the proof was tried and did not close.
     for i in (0..out.len()).rev() {
         out[i] = glyph(rest % base);
         rest /= base;
@@ -190,6 +191,7 @@ fn glyph(digit: u64) -> u8
 fn places(number: u64) -> usize
     ensures { result ≡ places_of number }
 {
+    // a match, for by its arms the proof goes
     match number.checked_ilog10() {
         None => 1,
         Some(power) => power as usize + 1,
