@@ -1,19 +1,16 @@
 -- What the program `bill` prints for a line: `refusal,units,pence`, in decimal, or nothing.
-use Rattle.std.specs.Prelude.{ℕ, Result, Option, None, Some}
+use Rattle.std.specs.Prelude.{Result, Option, None, Some}
 use Rattle.refusal.specs.declared.Refusal.{Refusal}
 use Rattle.refusal.specs.Refusal.{answer_number}
 use Rattle.ascii.specs.Ascii.{ascii}
 use Rattle.text.specs.Page.{Page, add_of}
 use Rattle.text.specs.Digits.{decimal_of}
+use Rattle.text.specs.Fields.{numbered}
 use Rattle.tariff.specs.declared.Bill.{Bill}
 use Rattle.tariff.specs.Tariff.{told, bill_of}
 use Rattle.tariff.specs.Hours.{bill_from}
 use Rattle.bill.specs.declared.lines.Asked.{Asked}
 use Rattle.bill.specs.declared.lines.Asked.TheVariants.{Time, From}
-
--- a number, and the comma after it
-abbrev pub numbered : Page → ℕ → Page
-numbered p n = add_of (add_of p (decimal_of n)) (ascii ",")
 
 -- 02, E11: an answer that is declined has "zeros" (`told`)
 unfoldable pub billed : Page → Result Bill Refusal → Page

@@ -16,11 +16,7 @@ struct Desk {
 
 fn main(rt: HostRuntime) {
     let errors = rt.stderr();
-    if console::stream::has_word(&rt, 1) {
-        let _ = Print::write_all(
-            &errors,
-            b"bill: it takes no argument; its lines come on standard input\n",
-        );
+    if console::stream::refuses_words(&rt, &errors, "bill", "lines") {
         return;
     }
     let mut desk = Desk { line: Line::new() };

@@ -1,6 +1,6 @@
 // The line that `bill` prints, written on a page.
 ghost use Rattle.std.specs.Prelude.{◌≡◌};
-ghost use Rattle.bill.specs.Page.{numbered, billed, answered};
+ghost use Rattle.bill.specs.Page.{billed, answered};
 
 use crate::lines::Asked;
 use console::stream::Answers;
@@ -27,15 +27,8 @@ fn put_bill(answers: &mut Answers, answer: Result<Bill, Refusal>)
 {
     let number = refusal::answer_number(&answer);
     let bill = answer.unwrap_or(NOTHING);
-    put_number(answers, u64::from(number));
-    put_number(answers, bill.units);
+    answers.put_number(u64::from(number));
+    answers.put_number(bill.units);
     answers.put_decimal(bill.pence);
     answers.put_byte(b'\n');
-}
-
-fn put_number(answers: &mut Answers, number: u64)
-    ensures { answers.new ≡ numbered answers.old number }
-{
-    answers.put_decimal(number);
-    answers.put_byte(b',');
 }

@@ -172,9 +172,7 @@ fn put_string(page: &mut Entry, set: Set, string: &[u8], n: usize, m: usize)
 
 fn put_codes(page: &mut Entry, codes: &[u8]) {
     page.put(b" codes ");
-    for code in codes {
-        page.put_hex(u64::from(*code), 2);
-    }
+    page.put_bytes(codes);
 }
 
 fn put_time(page: &mut Entry, set: Set) {
@@ -197,9 +195,8 @@ fn put_queued(page: &mut Entry, set: Set) {
 fn put_waiting(page: &mut Entry, set: Set) {
     let Queue { bytes, len } = set.sending.queue;
     put_number(page, b" waiting ", len as u64);
-    put_bits(page, u64::from(bytes[0]), 2);
-    page.put_hex(u64::from(bytes[1]), 2);
-    page.put_hex(u64::from(bytes[255]), 2)
+    page.put_byte(b' ');
+    page.put_bytes(&[bytes[0], bytes[1], bytes[255]])
 }
 
 fn put_filled(page: &mut Entry, set: Set) {

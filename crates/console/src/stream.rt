@@ -1,5 +1,5 @@
 // The program's own words, input and output, and what it says where one of them fails.
-ghost use Rattle.std.specs.Prelude.{◌≡◌, false};
+ghost use Rattle.std.specs.Prelude.{◌≡◌, true, is_err, Ok, MatchResult};
 ghost use Rattle.text.specs.Page.{fresh_page};
 
 use std::env::{Env, FillError};
@@ -11,10 +11,22 @@ use text::Page;
 // Whether the program was started with a word at this place. Its own name is at 0.
 pub fn has_word(words: &impl Env, place: usize) -> bool {
     let mut front = [0u8; 1];
-    match words.arg(place, &mut front) {
-        Err(FillError::NotPresent) => false,
-        _ => true,
+    !matches!(words.arg(place, &mut front), Err(FillError::NotPresent))
+}
+
+// Whether a program that takes no argument was started with one, which it then says. No equation is to be had: a
+// program's words and standard error are handles, whose contracts tell no bytes.
+pub fn refuses_words(words: &impl Env, errors: &impl Print, program: &str, input: &str) -> bool {
+    let refused = has_word(words, 1);
+    if refused {
+        let mut line = Page::<128>::new();
+        let _ = writeln!(
+            line,
+            "{program}: it takes no argument; its {input} come on standard input"
+        );
+        let _ = errors.write_all(line.text());
     }
+    refused
 }
 
 // Writes a line to standard error: what failed, as the caller names it, a colon and the system's word for why.
@@ -56,6 +68,12 @@ pub trait Program {
     fn finish(&mut self, answers: &mut Answers);
 }
 
+// What ends a run before its input does.
+enum Failure {
+    Input(io::Error),
+    Output(io::Error),
+}
+
 // Runs a program until its input ends, or one of input and output fails, which is said on standard error.
 // No equation is to be had: what it reads and writes goes over handles, whose contracts tell no bytes.
 pub fn run(
@@ -64,80 +82,68 @@ pub fn run(
     errors: &impl Print,
     program: &mut impl Program,
 ) {
+    match answer_all(input, output, program) {
+        Ok(()) => {}
+        Err(Failure::Input(why)) => {
+            fail_as(errors, program, b": standard input cannot be read", why);
+        }
+        Err(Failure::Output(why)) => {
+            fail_as(errors, program, b": standard output cannot be written", why);
+        }
+    }
+}
+
+fn answer_all(
+    input: &mut impl Read,
+    output: &impl Print,
+    program: &mut impl Program,
+) -> Result<(), Failure> {
     let mut answers = Answers::new();
     let mut buffer = [0u8; 4096];
     // A proved loop has to end, and nothing says that the input does: no run uses up so many reads.
     for _ in 0..u64::MAX {
-        let goes_on = match input.read(&mut buffer) {
-            Ok(0) => ended(output, errors, program, &mut answers),
-            Ok(count) => take_all(output, errors, program, &buffer[..count], &mut answers),
-            Err(why) => unreadable(errors, program, why),
-        };
-        if !goes_on {
-            return;
+        let count = counted(input.read(&mut buffer))?;
+        if count == 0 {
+            break;
         }
+        take_all(output, program, &buffer[..count], &mut answers)?;
     }
+    program.finish(&mut answers);
+    write_out(output, &mut answers)
 }
 
-// The bytes of one read; no answer to them waits for the next. Answers whether all that was to be written out was.
+// How many bytes a read gave; one that failed ends the run.
+fn counted(read: io::Result<usize>) -> Result<usize, Failure>
+    ensures { MatchResult result (λ count. read ≡ Ok count) (λ _. is_err read ≡ true) }
+{
+    read.map_err(Failure::Input)
+}
+
+// The bytes of one read; no answer to them waits for the next.
 fn take_all(
     output: &impl Print,
-    errors: &impl Print,
     program: &mut impl Program,
     bytes: &[u8],
     answers: &mut Answers,
-) -> bool
+) -> Result<(), Failure>
     ensures { answers.new ≡ fresh_page 65536 }
 {
     for byte in bytes {
         program.take(*byte, answers);
-        if answers.text().len() > FULL && !write_out(output, errors, program, answers) {
-            return false;
+        if answers.text().len() > FULL {
+            write_out(output, answers)?;
         }
     }
-    write_out(output, errors, program, answers)
+    write_out(output, answers)
 }
 
-// No more input comes.
-fn ended(
-    output: &impl Print,
-    errors: &impl Print,
-    program: &mut impl Program,
-    answers: &mut Answers,
-) -> bool
-    ensures value { result ≡ false }
-    ensures answers_after { answers.new ≡ fresh_page 65536 }
-{
-    program.finish(answers);
-    let _ = write_out(output, errors, program, answers);
-    false
-}
-
-fn unreadable(errors: &impl Print, program: &impl Program, why: io::Error) -> bool
-    ensures { result ≡ false }
-{
-    fail_as(errors, program, b": standard input cannot be read", why);
-    false
-}
-
-// Writes the answers out, and makes room for others. Answers whether they were taken.
-fn write_out(
-    output: &impl Print,
-    errors: &impl Print,
-    program: &impl Program,
-    answers: &mut Answers,
-) -> bool
+// Writes the answers out, and makes room for others.
+fn write_out(output: &impl Print, answers: &mut Answers) -> Result<(), Failure>
     ensures { answers.new ≡ fresh_page 65536 }
 {
     let written = output.write_all(answers.text());
     answers.clear();
-    match written {
-        Ok(()) => true,
-        Err(why) => {
-            fail_as(errors, program, b": standard output cannot be written", why);
-            false
-        }
-    }
+    written.map_err(Failure::Output)
 }
 
 fn fail_as(errors: &impl Print, program: &impl Program, what: &[u8], why: io::Error) {

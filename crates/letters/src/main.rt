@@ -12,11 +12,7 @@ struct Letters {
 
 fn main(rt: HostRuntime) {
     let errors = rt.stderr();
-    if console::stream::has_word(&rt, 1) {
-        let _ = Print::write_all(
-            &errors,
-            b"letters: it takes no argument; its bits come on standard input\n",
-        );
+    if console::stream::refuses_words(&rt, &errors, "letters", "bits") {
         return;
     }
     let mut letters = Letters {

@@ -38,7 +38,7 @@ fn still(place: Deframer) -> Reading
     }
 }
 
-// A string of ten, as marks.
+// A string of ten, as marks. By place: as an array's `map` the proof was tried and did not close.
 pub fn ten(string: &[u8]) -> [bool; 10]
     requires { length string.now ≡ 10 }
     ensures { result ≡ marks_of string.now }

@@ -2,9 +2,10 @@
 // the set then shows as a line of text.
 #![tactic(auto)]
 
-ghost use Rattle.std.specs.Prelude.{◌≡◌, false};
+ghost use Rattle.std.specs.Prelude.{◌≡◌};
 ghost use Rattle.deframe.specs.Read.{answer_of};
 ghost use Rattle.text.specs.Page.{add_of};
+ghost use Rattle.panel.specs.declared.Form.TheVariants as form;
 ghost use Rattle.panel.specs.Wall.{read_line, shown_line, kept_line, lit_left, line_of};
 
 use console::lines::{Call, Parser};
@@ -21,13 +22,22 @@ mod keep;
 mod page;
 mod shown;
 
+// Which program it is.
+#[derive(Clone, Copy, PartialEq, Eq)]
+pub enum Form {
+    Wall,
+    // a second line for each answer
+    Tap,
+    // `tap --ext`: the lines of 02 too
+    Extended,
+}
+
 // What stands between two bytes of the input.
 #[derive(Drop)]
 struct Panel {
+    form: Form,
     set: Set,
     parser: Parser,
-    // `tap`: a second line for each answer
-    bits: bool,
     // `tap --ext`: the string that it keeps
     string: Page<300>,
     // `tap --ext`: the reader's place
@@ -42,15 +52,17 @@ pub fn run(
     input: &mut impl Read,
     output: &impl Print,
     errors: &impl Print,
-    extended: bool,
-    bits: bool,
+    form: Form,
 ) {
-    console::stream::run(input, output, errors, &mut Panel::new(extended, bits));
+    console::stream::run(input, output, errors, &mut Panel::new(form));
 }
 
 impl Program for Panel {
     fn name(&self) -> &'static [u8] {
-        if self.bits { b"tap" } else { b"wall" }
+        match self.form {
+            Form::Wall => b"wall",
+            Form::Tap | Form::Extended => b"tap",
+        }
     }
 
     fn take(&mut self, byte: u8, answers: &mut Answers) {
@@ -67,12 +79,12 @@ impl Program for Panel {
 
 impl Panel {
     // 01: before any R line the rate is 8000.
-    fn new(extended: bool, bits: bool) -> Self {
+    fn new(form: Form) -> Self {
         let made = Set::new(8000);
         Panel {
+            form,
             set: made.set,
-            parser: Parser::new(extended),
-            bits,
+            parser: Parser::new(form == Form::Extended),
             string: Page::new(),
             reader: Deframer::new(),
             lit: None,
@@ -86,7 +98,7 @@ impl Panel {
         ensures reader_after { self.new.reader ≡ (read_line 1200 self.old.string.text self.old.reader call).place }
         ensures string_after { self.new.string.text ≡ kept_line 300 self.old.string.text call }
         ensures lit_after { self.new.lit ≡ lit_left self.old.lit (shown_line 1200 1200 70000 self.old.string.text (answer_of (read_line 1200 self.old.string.text self.old.reader call)) self.old.set call).told }
-        ensures page_after { self.old.bits ≡ false → answers.new ≡ add_of answers.old (line_of (shown_line 1200 1200 70000 self.old.string.text (answer_of (read_line 1200 self.old.string.text self.old.reader call)) self.old.set call)) }
+        ensures page_after { self.old.form ≡ form.Wall → answers.new ≡ add_of answers.old (line_of (shown_line 1200 1200 70000 self.old.string.text (answer_of (read_line 1200 self.old.string.text self.old.reader call)) self.old.set call)) }
     {
         let Some(call) = call else {
             return;
@@ -110,7 +122,7 @@ impl Panel {
         shown::put_line(answers, shown);
         if let Some(Told { second, .. }) = shown.told {
             self.lit = keep::lit(self.lit, second);
-            if self.bits {
+            if self.form != Form::Wall {
                 page::put_bits(
                     answers,
                     self.set,

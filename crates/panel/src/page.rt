@@ -57,7 +57,7 @@ fn put_sent(answers: &mut Answers, set: Set, outbox: &[u8], sent: usize) {
     put_front(answers, outbox, sent);
 }
 
-// Its row and its column.
+// Its row and its column. call and calls write their own: what the three share is text, which knows no key.
 fn put_key(answers: &mut Answers, key: Option<Key>) {
     match key {
         Some(Key { row, column }) => {
@@ -79,12 +79,8 @@ fn put_frame(answers: &mut Answers, answer: Result<u8, Refusal>) {
 
 // The buffer's first `n` bytes, in hexadecimal.
 fn put_front(answers: &mut Answers, bytes: &[u8], n: usize) {
-    if n == 0 {
-        answers.put_byte(b'-');
-    } else if n <= bytes.len() {
-        for byte in &bytes[..n] {
-            answers.put_hex(*byte as u64, 2);
-        }
+    if n <= bytes.len() {
+        answers.put_bytes(&bytes[..n]);
     }
 }
 

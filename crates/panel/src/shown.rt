@@ -2,7 +2,7 @@
 ghost use Rattle.std.specs.Prelude.{◌≡◌, ◌*◌, ◌≤◌, true, ◌&&◌, leb, eqb, length};
 ghost use Rattle.text.specs.Page.{add_of};
 ghost use Rattle.set.specs.Set.{made, typed, lapsed, forced, fill, byte_queued};
-ghost use Rattle.refusal.specs.Refusal.{number_of};
+ghost use Rattle.refusal.specs.Refusal.{number_of, answer_number};
 ghost use Rattle.reply.specs.declared.Reply.TheVariants as reply;
 ghost use Rattle.set.specs.String.{typed_all};
 ghost use Rattle.deframe.specs.Read.{marks_of};
@@ -104,8 +104,7 @@ fn made(rate: u32) -> Shown
     ensures { result ≡ made_shown (made rate) }
 {
     let made = Set::new(rate);
-    let number = refusal::answer_number(&made.checked);
-    show(made.set, number, Reply::None, Second::Made)
+    show(made.set, made.checked, Reply::None, Second::Made)
 }
 
 // Into the outbox's first `n` bytes.
@@ -122,7 +121,7 @@ fn feed(set: Set, byte: u8, carrier: bool, outbox: &mut [u8]) -> Shown
     ensures { result ≡ typed_shown set (typed set byte carrier (length outbox.old)) }
 {
     match set.feed(byte, carrier, outbox) {
-        Ok(typed) => show(typed.set, 0, typed.reply, Second::Sent(typed.sent)),
+        Ok(typed) => show(typed.set, Ok(()), typed.reply, Second::Sent(typed.sent)),
         Err(refusal) => declined(set, refusal, Second::Sent(0)),
     }
 }
@@ -131,7 +130,7 @@ fn lapsed(set: Set, ns: u64, carrier: bool) -> Shown
     ensures { result ≡ lapsed_shown set (lapsed set ns carrier) }
 {
     match set.advance_time(ns, carrier) {
-        Ok(lapsed) => show(lapsed.set, 0, lapsed.reply, Second::Sent(0)),
+        Ok(lapsed) => show(lapsed.set, Ok(()), lapsed.reply, Second::Sent(0)),
         Err(refusal) => declined(set, refusal, Second::Sent(0)),
     }
 }
@@ -140,7 +139,7 @@ fn forced(set: Set) -> Shown
     ensures { result ≡ forced_shown set (forced set) }
 {
     match set.force_data_mode() {
-        Ok(forced) => show(forced, 0, Reply::None, Second::Sent(0)),
+        Ok(forced) => show(forced, Ok(()), Reply::None, Second::Sent(0)),
         Err(refusal) => declined(set, refusal, Second::Sent(0)),
     }
 }
@@ -164,7 +163,7 @@ fn fill(set: Set, samples: &mut [f32]) -> Shown
     match set.process_out(samples) {
         Ok(filled) => {
             let key = filled.key;
-            show(filled.set, 0, Reply::None, Second::Filled { n, key })
+            show(filled.set, Ok(()), Reply::None, Second::Filled { n, key })
         }
         Err(refusal) => {
             let key = None;
@@ -181,7 +180,7 @@ fn cued(set: Set, position: u8) -> Shown
         Ok(cued) => {
             let sample = cued.sample;
             let key = cued.key;
-            show(set, 0, Reply::None, Second::Cued { sample, key })
+            show(set, Ok(()), Reply::None, Second::Cued { sample, key })
         }
         Err(refusal) => {
             let sample = 0;
@@ -220,7 +219,7 @@ fn feed_all(set: Set, string: &[u8], carrier: bool, outbox: &mut [u8], codes: &m
         Ok(all) => {
             let sent = all.sent;
             let places = 3 * string.len();
-            show(all.set, 0, Reply::None, Second::String { sent, places })
+            show(all.set, Ok(()), Reply::None, Second::String { sent, places })
         }
         Err(refusal) => {
             let sent = 0;
@@ -236,7 +235,7 @@ fn bits_read(set: Set, reading: Reading) -> Shown
 {
     let taken = reading.taken;
     let given = reading.given;
-    show(set, 0, Reply::None, Second::Bits { taken, given })
+    show(set, Ok(()), Reply::None, Second::Bits { taken, given })
 }
 
 // A string of ten is a frame or is declined; one of another length is no call.
@@ -252,19 +251,17 @@ fn framed(set: Set, string: &[u8]) -> Shown
 fn unframed(set: Set, answer: Result<u8, Refusal>) -> Shown
     ensures { result ≡ frame_shown true set answer }
 {
-    show(
-        set,
-        refusal::answer_number(&answer),
-        Reply::None,
-        Second::Frame(answer),
-    )
+    match answer {
+        Ok(_) => show(set, Ok(()), Reply::None, Second::Frame(answer)),
+        Err(refusal) => declined(set, refusal, Second::Frame(answer)),
+    }
 }
 
 // No call is made.
 fn lit(set: Set) -> Shown
     ensures { result ≡ lit_shown set }
 {
-    show(set, 0, Reply::None, Second::Lit)
+    show(set, Ok(()), Reply::None, Second::Lit)
 }
 
 // It sends nothing now: the byte is heard once the line is up.
@@ -272,7 +269,7 @@ fn queued(set: Set, byte: u8) -> Shown
     ensures { result ≡ queued_shown set (byte_queued set byte) }
 {
     match set.queue_byte(byte) {
-        Ok(queued) => show(queued, 0, Reply::None, Second::Sent(0)),
+        Ok(queued) => show(queued, Ok(()), Reply::None, Second::Sent(0)),
         Err(refusal) => declined(set, refusal, Second::Sent(0)),
     }
 }
@@ -281,7 +278,7 @@ fn queued(set: Set, byte: u8) -> Shown
 fn declined(set: Set, refusal: Refusal, second: Second) -> Shown
     ensures { result ≡ shown_of set (number_of refusal) reply.None second }
 {
-    show(set, u8::from(refusal), Reply::None, second)
+    show(set, Err(refusal), Reply::None, second)
 }
 
 fn nothing(set: Set) -> Shown
@@ -290,11 +287,11 @@ fn nothing(set: Set) -> Shown
     Shown { set, told: None }
 }
 
-fn show(set: Set, refusal: u8, reply: Reply, second: Second) -> Shown
-    ensures { result ≡ shown_of set refusal reply second }
+fn show(set: Set, answer: Result<(), Refusal>, reply: Reply, second: Second) -> Shown
+    ensures { result ≡ shown_of set (answer_number answer) reply second }
 {
     let report = Report {
-        refusal,
+        refusal: refusal::answer_number(&answer),
         in_command_mode: set.in_command_mode(),
         state: u8::from(set.state()),
         stage: set.stage(),

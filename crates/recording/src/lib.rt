@@ -182,10 +182,7 @@ fn put_quoted(line: &mut Page<16640>, path: &[u8]) {
 
 // Whether the path names a symbolic link.
 fn is_link(rt: &impl Files, path: &[u8]) -> bool {
-    match seen(rt, path) {
-        Ok(found) => found.is_symlink(),
-        Err(_) => false,
-    }
+    seen(rt, path).is_ok_and(|found| found.is_symlink())
 }
 
 fn seen(rt: &impl Files, path: &[u8]) -> io::Result<fs::Metadata> {
@@ -194,10 +191,10 @@ fn seen(rt: &impl Files, path: &[u8]) -> io::Result<fs::Metadata> {
 
 // The path as std takes it, which opens no other.
 fn named(path: &[u8]) -> io::Result<&str> {
-    match std::str::from_utf8(path) {
-        Ok(name) => Ok(name),
-        Err(_) => Err(io::Error::new(ErrorKind::InvalidFilename, "it is not UTF-8")),
-    }
+    std::str::from_utf8(path).map_err(|_| io::Error::new(
+        ErrorKind::InvalidFilename,
+        "it is not UTF-8",
+    ))
 }
 
 fn open_overwrite<R: Files>(rt: &R, path: &[u8]) -> io::Result<R::File> {
@@ -217,10 +214,7 @@ fn open_new<R: Files>(rt: &R, path: &[u8]) -> io::Result<R::File> {
 
 // Only in a regular file is there a place past the end: a pipe has no places, a device has no such one.
 fn is_regular(file: &mut impl Seek) -> bool {
-    match file.seek(SeekFrom::End(1)) {
-        Ok(place) => place > 0,
-        Err(_) => false,
-    }
+    file.seek(SeekFrom::End(1)).is_ok_and(|place| place > 0)
 }
 
 // A disk may find out only when all is to be on it that it has no room.

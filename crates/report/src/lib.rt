@@ -4,7 +4,6 @@
 ghost use Rattle.std.specs.Prelude.{◌≡◌};
 ghost use Rattle.ascii.specs.Ascii.{ascii};
 ghost use Rattle.text.specs.Page.{add_of};
-ghost use Rattle.text.specs.Digits.{decimal_of};
 ghost use Rattle.report.specs.Report.{mode_text, report_line};
 
 use text::Page;
@@ -34,22 +33,15 @@ fn compose(report: Report) -> Page<128>
     ensures { result.text ≡ report_line report }
 {
     let mut line = Page::new();
-    put_number(&mut line, report.refusal as u64);
+    line.put_number(report.refusal as u64);
     put_mode(&mut line, report.in_command_mode);
-    put_number(&mut line, report.state as u64);
-    put_number(&mut line, report.stage as u64);
-    put_number(&mut line, report.m as u64);
-    put_number(&mut line, report.first as u64);
+    line.put_number(report.state as u64);
+    line.put_number(report.stage as u64);
+    line.put_number(report.m as u64);
+    line.put_number(report.first as u64);
     line.put_decimal(report.second as u64);
     line.put_byte(b'\n');
     line
-}
-
-pub fn put_number<const N: usize>(page: &mut Page<N>, number: u64)
-    ensures { page.new ≡ add_of (add_of page.old (decimal_of number)) (ascii ",") }
-{
-    page.put_decimal(number);
-    page.put_byte(b',');
 }
 
 #[tactic(auto, unfolding(crate::specs::Report::mode_text))]

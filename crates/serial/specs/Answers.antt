@@ -3,7 +3,8 @@
 use Rattle.std.specs.Prelude.{ℕ, min, List, [], ◌∷◌, length, take, replicate, Result, Option, None, Some}
 use Rattle.ascii.specs.Ascii.{ascii}
 use Rattle.text.specs.Page.{Page, add_of}
-use Rattle.text.specs.Digits.{decimal_of, last_digits}
+use Rattle.text.specs.Digits.{decimal_of}
+use Rattle.text.specs.Fields.{numbered, hex_on}
 use Rattle.report.specs.Report.{mode_text}
 use Rattle.at.specs.Processor.{command_mode}
 use Rattle.session.specs.Session.{state_number}
@@ -19,27 +20,15 @@ use Rattle.serial.specs.declared.lines.Asked.{Asked}
 use Rattle.serial.specs.declared.lines.Asked.TheVariants as asked
 
 -- ---- a line on the page
-abbrev pub field : Page → List ℕ → Page
-field p text = add_of (add_of p text) (ascii ",")
-
--- bytes in hexadecimal, two digits each, or `-` for none
-abbrev pub in_hex : Page → List ℕ → Page
-in_hex p [] = p
-in_hex p (byte ∷ bytes) = in_hex (add_of p (last_digits 16 2 byte)) bytes
-
-abbrev pub sent_on : Page → List ℕ → Page
-sent_on p [] = add_of p (ascii "-")
-sent_on p (byte ∷ bytes) = in_hex p (byte ∷ bytes)
-
 -- of the chip after the call, the number, the value and the bytes sent
 unfoldable pub told : Page → Chip → (number value : ℕ) → List ℕ → Page
 told p c number value sent =
-    let first = field (field p (decimal_of number)) (decimal_of value) in
-    let mode = field first (mode_text (command_mode c.set.processor)) in
-    let state = field mode (decimal_of (state_number c.set.session.state)) in
-    let stage = field state (decimal_of c.set.session.shown) in
-    let m = field stage (decimal_of c.set.session.m) in
-    add_of (sent_on m sent) (ascii "\n")
+    let first = numbered (numbered p number) value in
+    let mode = add_of (add_of first (mode_text (command_mode c.set.processor))) (ascii ",") in
+    let state = numbered mode (state_number c.set.session.state) in
+    let stage = numbered state c.set.session.shown in
+    let m = numbered stage c.set.session.m in
+    add_of (hex_on m sent) (ascii "\n")
 
 -- ---- the calls; what is lent to them is the front of an outbox of 16 bytes, all 0, or of the buffer of `room` samples
 abbrev pub lent_of : (outbox : ℕ) → List ℕ

@@ -38,7 +38,7 @@ fn start(rate: u32, answers: &mut Answers) -> Chip
 {
     let a = Chip::new(rate);
     let chip = a.chip;
-    page::put_told(answers, chip, refusal::answer_number(&a.checked), 0, &[]);
+    page::put_told(answers, chip, a.checked, 0, &[]);
     chip
 }
 
@@ -49,7 +49,7 @@ fn read(chip: Chip, address: u8, answers: &mut Answers) -> Chip
     match chip.read(address) {
         Ok(read) => {
             let next = read.chip;
-            page::put_told(answers, next, 0, read.value, &[]);
+            page::put_told(answers, next, Ok(()), read.value, &[]);
             next
         }
         Err(refusal) => declined(chip, refusal, answers),
@@ -87,7 +87,7 @@ fn write_lent(
         Ok(written) => {
             let next = written.chip;
             let sent = &outbox[..written.sent.min(outbox.len())];
-            page::put_told(answers, next, 0, 0, sent);
+            page::put_told(answers, next, Ok(()), 0, sent);
             next
         }
         Err(refusal) => declined(chip, refusal, answers),
@@ -100,7 +100,7 @@ fn lapse(chip: Chip, ns: u64, carrier: bool, answers: &mut Answers) -> Chip
 {
     match chip.lapse(ns, carrier) {
         Ok(next) => {
-            page::put_told(answers, next, 0, 0, &[]);
+            page::put_told(answers, next, Ok(()), 0, &[]);
             next
         }
         Err(refusal) => declined(chip, refusal, answers),
@@ -116,7 +116,7 @@ fn fill(chip: Chip, n: usize, samples: &mut [f32], answers: &mut Answers) -> Chi
     match chip.fill(&mut samples[..count]) {
         Ok(filled) => {
             let next = filled.chip;
-            page::put_told(answers, next, 0, 0, &[]);
+            page::put_told(answers, next, Ok(()), 0, &[]);
             next
         }
         Err(refusal) => declined(chip, refusal, answers),
@@ -128,6 +128,6 @@ fn declined(chip: Chip, refusal: Refusal, answers: &mut Answers) -> Chip
     ensures chip_value { result ≡ chip }
     ensures page_after { answers.new ≡ told answers.old chip (number_of refusal) 0 [] }
 {
-    page::put_told(answers, chip, u8::from(refusal), 0, &[]);
+    page::put_told(answers, chip, Err(refusal), 0, &[]);
     chip
 }

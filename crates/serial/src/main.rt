@@ -23,11 +23,7 @@ struct Desk {
 
 fn main(rt: HostRuntime) {
     let errors = rt.stderr();
-    if console::stream::has_word(&rt, 1) {
-        let _ = Print::write_all(
-            &errors,
-            b"serial: it takes no argument; its lines come on standard input\n",
-        );
+    if console::stream::refuses_words(&rt, &errors, "serial", "lines") {
         return;
     }
     // Before any R line the chip is fresh at 8,000.

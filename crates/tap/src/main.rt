@@ -2,16 +2,17 @@
 // argument --ext it takes longer fills, T lines that give the outbox's length, and the lines of 02.
 #![tactic(auto)]
 
+use panel::Form;
 use std::env::Env;
 
 fn main(rt: HostRuntime) {
     let errors = rt.stderr();
     if !console::stream::has_word(&rt, 1) {
-        panel::run(&mut rt.stdin(), &rt, &errors, false, true);
+        panel::run(&mut rt.stdin(), &rt, &errors, Form::Tap);
         return;
     }
     if !console::stream::has_word(&rt, 2) && is_ext(&rt) {
-        panel::run(&mut rt.stdin(), &rt, &errors, true, true);
+        panel::run(&mut rt.stdin(), &rt, &errors, Form::Extended);
         return;
     }
     let _ = Print::write_all(&errors, b"tap: the only argument is --ext\n");

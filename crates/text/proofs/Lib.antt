@@ -1,3 +1,4 @@
 -- What the functions' proofs cite.
 pub mod Pages
 pub mod Examples
+mod Hex

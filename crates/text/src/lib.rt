@@ -7,6 +7,7 @@ ghost use Rattle.std.specs.Prelude.{◌≡◌, ◌∷◌, [], ◌++◌, ◌+◌,
 ghost use Rattle.text.specs.Page.{fresh_page, add_of};
 ghost use Rattle.text.specs.Digits.{glyph_of, last_digits, places_of, decimal_of};
 ghost use Rattle.text.specs.Seconds.{seconds_of};
+ghost use Rattle.text.specs.Fields.{numbered, in_hex, hex_on};
 
 use std::fmt;
 use std::marker::Model;
@@ -92,6 +93,33 @@ impl<const N: usize> Page<N> {
         self.put_digits(number, 16, count);
     }
 
+    // A number in decimal, and a comma.
+    pub fn put_number(&mut self, number: u64)
+        ensures { self.new ≡ numbered self.old number }
+    {
+        self.put_decimal(number);
+        self.put_byte(b',');
+    }
+
+    // Each byte's two hexadecimal digits, or a dash for none.
+    pub fn put_bytes(&mut self, bytes: &[u8])
+        ensures { self.new ≡ hex_on self.old bytes.now }
+    {
+        if bytes.is_empty() {
+            self.put_byte(b'-');
+        } else {
+            self.put_pairs(bytes);
+        }
+    }
+
+    fn put_pairs(&mut self, bytes: &[u8])
+        ensures { self.new ≡ in_hex self.old bytes.now }
+    {
+        for byte in bytes {
+            self.put_hex(u64::from(*byte), 2);
+        }
+    }
+
     // How long samples last at a rate, in seconds with four decimals, rounded to the nearest. At the
     // rate 0, nothing.
     pub fn put_seconds(&mut self, samples: u32, rate: u32)
@@ -140,6 +168,7 @@ fn spell(out: &mut [u8], number: u64, base: u64)
     ensures { out.new ≡ last_digits base (length out.old) number }
 {
     let mut rest = number;
+    // By place: over `iter_mut().rev()` the proof was tried and did not close.
     for i in (0..out.len()).rev() {
         out[i] = glyph(rest % base);
         rest /= base;
@@ -152,15 +181,17 @@ fn glyph(digit: u64) -> u8
     ensures { result ≡ glyph_of digit }
 {
     if digit < 10 {
-        return b'0' + digit as u8;
+        b'0' + digit as u8
+    } else {
+        b'A' + (digit - 10) as u8
     }
-    b'A' + (digit - 10) as u8
 }
 
 // How many decimal digits a number has.
 fn places(number: u64) -> usize
     ensures { result ≡ places_of number }
 {
+    // a match, for by its arms the proof goes
     match number.checked_ilog10() {
         None => 1,
         Some(power) => power as usize + 1,

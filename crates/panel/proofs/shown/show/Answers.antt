@@ -2,4 +2,4 @@
 use Rattle.panel.proofs.shown.show.Goals as goal
 
 pub returns : goal.returns
-returns c = rw (c.second.ensures, c.first.ensures, c.m.ensures, c.stage.ensures, c.from.ensures, c.in_command_mode.ensures, c.state.ensures)
+returns c = rw (c.answer_number.ensures, c.second.ensures, c.first.ensures, c.m.ensures, c.stage.ensures, c.from.ensures, c.in_command_mode.ensures, c.state.ensures)
