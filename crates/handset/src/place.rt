@@ -26,13 +26,11 @@ fn hertz(tones: &[u32; 4], place: u8) -> u32
 fn key_sound(key: Option<Key>) -> Option<Tones>
     ensures { result ≡ key_sound key }
 {
-    match key {
-        Some(Key { row, column }) => Some(Tones {
-            low: hertz(&ROWS, row),
-            high: hertz(&COLUMNS, column),
-        }),
-        None => None,
-    }
+    let Key { row, column } = key?;
+    Some(Tones {
+        low: hertz(&ROWS, row),
+        high: hertz(&COLUMNS, column),
+    })
 }
 
 fn ring_sound(on: bool) -> Option<Tones>
