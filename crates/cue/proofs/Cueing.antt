@@ -1,18 +1,16 @@
 -- An accepted cue: its numbers are in limits, and the sample after click, dial tone and the digits before is the first in the digit's tone.
 -- Assumes nothing.
-use Prim.Native.Nat.{ℕ, zero, suc, ◌+◌, ◌≤◌, ◌<◌}
-use native.Mathlib.Nat.{le_of_lt}
+use Prim.Native.Nat.{ℕ, ◌+◌, ◌≤◌, ◌<◌}
 use native.Mathlib.Omega.{arith}
 use mathlib.Core.Path.{◌≡◌, refl}
 use mathlib.Core.Bool.{Bool, true, false, and-eq-true_iff}
-use lib.Dec.{lit≤, eqb}
+use lib.Dec.{eqb}
 use lib.ListN.{length}
 use lib.Seq.{length-take-le}
-use borrow.Author.Tests.{ltb-true, eqb-true, le-leb}
+use borrow.Author.Tests.{ltb-true, eqb-true}
 use Rattle.math.specs.Float.{one}
 use Rattle.schedule.specs.Time.{samples_in}
-use Rattle.schedule.specs.Length.{click_time, dialling_samples}
-use Rattle.schedule.proofs.Lengths.{dialling-range}
+use Rattle.schedule.specs.Length.{click_time}
 use Rattle.passage.specs.Lengths.{samples_of_digits}
 use Rattle.passage.specs.Cue.{FirstInTone, first_in_tone}
 use Rattle.passage.proofs.Cue.{first-sample, first-sample-is}
@@ -25,16 +23,6 @@ use Rattle.set.specs.Refusals.{Checked, Declined, answered, checked}
 use Rattle.cue.specs.declared.Cued.{Cued}
 use Rattle.cue.specs.Cue.{cuable, cause_of_cue, cue_cause, sample_cued, key_cued}
 use Rattle.set.proofs.Ranges.{sound-digits, sound-rate}
-
--- the samples of the digits before a digit, which the schedule tells where there are some; and at most
-pub digits-samples : (p r : ℕ) → (p ≡ 0 → ⊥) → p < 76 → 8000 ≤ r → r ≤ 192000 → dialling_samples r p ≡ samples_of_digits r p
-unfolding dialling_samples
-digits-samples zero r some h lo hi = absurd (some refl)
-digits-samples (suc p) r some h lo hi = rw (le-leb 8000 r lo, le-leb r 192000 hi, le-leb (suc p) 76 (le_of_lt h))
-
-pub few-samples : (p r : ℕ) → p < 76 → 8000 ≤ r → r ≤ 192000 → samples_of_digits r p ≤ 2918401
-few-samples zero r h lo hi = lit≤ tt
-few-samples (suc p) r h lo hi = (dialling-range r lo hi (suc p) (le_of_lt h)).1
 
 -- a cue that is declined has its cause, sample 0 and no key
 pub declined-cued : (c : Checked) (found : Cued) → Declined c

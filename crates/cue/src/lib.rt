@@ -25,17 +25,6 @@ pub struct Cued {
     pub key: Option<Key>,
 }
 
-// How many samples of Dialling come before a digit's: none, or those of the digits before it.
-fn samples_of_digits(position: u32, rate: Rate) -> u64
-    requires { position < 76 }
-    ensures { result ≡ samples_of_digits rate.hertz position }
-{
-    if position == 0 {
-        return 0;
-    }
-    schedule::dialling_samples(position as u64, rate.hertz)
-}
-
 // The sample after the click, the dial tone and the digits before.
 fn cue_sample(position: u32, rate: Rate) -> u64
     requires { position < 76 }
@@ -43,7 +32,7 @@ fn cue_sample(position: u32, rate: Rate) -> u64
 {
     let click = schedule::stage_samples_for(stage::OFF_HOOK_S, rate.hertz);
     let tone = schedule::stage_samples_for(stage::DIAL_TONE_S, rate.hertz);
-    let digits = samples_of_digits(position, rate);
+    let digits = passage::samples_of_digits(position as u64, rate);
     click + tone + digits + 1
 }
 

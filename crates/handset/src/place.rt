@@ -1,7 +1,6 @@
 // Runs: samples in a row that sound alike, found where they are with the clocks of the schedule, however many come before them.
 ghost use Rattle.std.specs.Prelude.{◌≡◌, ◌<◌, ◌≤◌, length, slice_index};
-ghost use Rattle.schedule.specs.Length.{max_digits, dialling_length};
-ghost use Rattle.passage.specs.Lengths.{samples_of_digits};
+ghost use Rattle.schedule.specs.Length.{dialling_length};
 ghost use Rattle.plan.specs.Call.{call_digits};
 ghost use Rattle.handset.specs.Sound.{key_sound, ring_sound};
 ghost use Rattle.handset.specs.Runs.{edges_of, rung_before, silent_run, dial_tone_run, Placed, DialledRun, RungRun, IsRun};
@@ -16,7 +15,7 @@ const ROWS: [u32; 4] = [697, 770, 852, 941];
 
 const COLUMNS: [u32; 4] = [1209, 1336, 1477, 1633];
 
-// 0 past the last.
+// 0 past the last: a key may be of any row and column.
 fn hertz(tones: &[u32; 4], place: u8) -> u32
     ensures { result ≡ slice_index tones.now place }
 {
@@ -26,13 +25,11 @@ fn hertz(tones: &[u32; 4], place: u8) -> u32
 fn key_sound(key: Option<Key>) -> Option<Tones>
     ensures { result ≡ key_sound key }
 {
-    match key {
-        Some(Key { row, column }) => Some(Tones {
-            low: hertz(&ROWS, row),
-            high: hertz(&COLUMNS, column),
-        }),
-        None => None,
-    }
+    let Key { row, column } = key?;
+    Some(Tones {
+        low: hertz(&ROWS, row),
+        high: hertz(&COLUMNS, column),
+    })
 }
 
 fn ring_sound(on: bool) -> Option<Tones>
@@ -83,17 +80,6 @@ fn dial_tone(n: u32, count: usize) -> Run
     }
 }
 
-// Of Dialling, the samples before a digit's.
-fn digit_start(digit: u64, rate: Rate) -> u32
-    requires { digit ≤ max_digits }
-    ensures { result ≡ samples_of_digits rate.hertz digit }
-{
-    if digit == 0 {
-        return 0;
-    }
-    schedule::dialling_samples(digit, rate.hertz) as u32
-}
-
 // A digit's oscillators are fresh at its first sample.
 fn dialled(call: &Call, n: u32, left: usize) -> Run
     requires { (n < dialling_length call.now.rate.hertz (length (call_digits call.now))) × (0 < left) × (left ≤ 65536) }
@@ -104,7 +90,7 @@ fn dialled(call: &Call, n: u32, left: usize) -> Run
     let digit = phase.digit;
     let tone = phase.tone;
     let more = runs::dialling_run(digit, tone, n, rate, left - 1);
-    let start = digit_start(digit, call.rate);
+    let start = passage::samples_of_digits(digit, call.rate) as u32;
     let sound = key_sound(tones::dialled_key(call.digits(), digit, tone));
     Run {
         sound,

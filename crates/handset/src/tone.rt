@@ -1,7 +1,6 @@
 // Two tones in whole numbers: the wave, the phases that pick its entries, and their samples mixed.
 ghost use Rattle.std.specs.Prelude.{◌≡◌, ◌/◌, ◌^◌, ◌<◌, length, Some};
 ghost use Rattle.handset.specs.Rule.{IsSine};
-ghost use Rattle.handset.specs.Wave.{wave};
 ghost use Rattle.handset.specs.Tone.{step_of, phase_after, entry_at, tone_at, mixed_at};
 ghost use Rattle.handset.specs.Runs.{Audible, heard_from};
 
@@ -9,7 +8,7 @@ use crate::Tones;
 use schedule::Rate;
 
 // A full turn: 32,767 times the sine, to within one.
-const WAVE: [i32; 1024] = [
+static WAVE: [i32; 1024] = [
     0, 201, 402, 603, 804, 1005, 1206, 1407, 1608, 1809, 2009, 2210, 2410, 2611, 2811, 3012, 3212,
     3412, 3612, 3811, 4011, 4210, 4410, 4609, 4808, 5007, 5205, 5404, 5602, 5800, 5998, 6195, 6393,
     6590, 6786, 6983, 7179, 7375, 7571, 7767, 7962, 8157, 8351, 8545, 8739, 8933, 9126, 9319, 9512,
@@ -104,33 +103,30 @@ fn step(hertz: u32, rate: Rate) -> u32
 fn phase(step: u32, steps: u32) -> u32
     ensures { result ≡ phase_after step steps }
 {
-    ((steps as u64) * (step as u64) % 4294967296) as u32
+    steps.wrapping_mul(step)
 }
 
 // The entry that the top ten bits pick.
-fn entry(table: &[i32; 1024], phase: u32) -> i32
-    requires { table.now ≡ wave }
+fn entry(phase: u32) -> i32
     ensures { (result ≡ entry_at phase) × IsSine (phase / 2 ^ 22) result }
 {
     let k = (phase >> 22) as usize;
-    table[k]
+    WAVE[k]
 }
 
 // A tone's part of a sample. The shift rounds down, below 0 too.
-fn tone(table: &[i32; 1024], phase: u32) -> i32
-    requires { table.now ≡ wave }
+fn tone(phase: u32) -> i32
     ensures { result ≡ tone_at phase }
 {
-    let e = entry(table, phase);
+    let e = entry(phase);
     (14745 * e) >> 15
 }
 
-fn mix(table: &[i32; 1024], low: u32, high: u32) -> i16
-    requires { table.now ≡ wave }
+fn mix(low: u32, high: u32) -> i16
     ensures { result ≡ mixed_at low high }
 {
-    let a = tone(table, low);
-    let b = tone(table, high);
+    let a = tone(low);
+    let b = tone(high);
     (a + b) as i16
 }
 
@@ -139,13 +135,12 @@ pub fn play(tones: Tones, rate: Rate, steps: u32, out: &mut [i16])
     requires { Audible (Some tones) }
     ensures { out.new ≡ heard_from (Some tones) rate.hertz steps (length out.old) }
 {
-    let table = WAVE;
     let s = step(tones.low, rate);
     let t = step(tones.high, rate);
     let mut a = phase(s, steps);
     let mut b = phase(t, steps);
     for sample in out.iter_mut() {
-        *sample = mix(&table, a, b);
+        *sample = mix(a, b);
         a = a.wrapping_add(s);
         b = b.wrapping_add(t);
     }

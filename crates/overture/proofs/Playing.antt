@@ -19,21 +19,21 @@ use Rattle.fsk.specs.Played.{Source, left, made, PlayedIs}
 use Rattle.overture.specs.Writers.{WroteIs}
 use Rattle.overture.proofs.Iteration.{after-suc, samples-suc}
 
--- ---- over a part that is the front of a buffer
+-- ---- over a part that is the front of a buffer, and was lent
 
-module _ (count : ℕ) (was : List Float) where
-  pub in-part : (i : ℕ) → i < length (take count was) → i < count
-  in-part i l = omega (arith, subst (λ (k : ℕ). i < k) (length-take count was) l)
+module _ (count : ℕ) (was : List Float) (fits : count ≤ length was) where
+  part-long : length (take count was) ≡ count
+  part-long = omega (arith, fits, length-take count was)
 
-  pub part-done : (i : ℕ) → count ≤ length was → length (take count was) ≤ i → count ≤ i
-  part-done i h l = omega (arith, h, subst (λ (k : ℕ). k ≤ i) (length-take count was) l)
-
-  pub part-played : {X : Type 0} (f : Source X) (x : X) (is : List Float) (y : X) → PlayedIs f count x (take count was) is y → PlayedIs f count x was (is ++ drop count was) y
+  pub part-played : {X : Type 0} (f : Source X) (x : X) (is : List Float) (y : X) → PlayedIs f (length (take count was)) x (take count was) is y → PlayedIs f count x was (is ++ drop count was) y
   part-played f x is y P = record {
     buffer = ap (λ (xs : List Float). xs ++ drop count was)
-        (P.buffer ∙ ap (λ (xs : List Float). made f count x ++ xs) (drop_of_length-le (take count was) {i = count} (rw length-take (omega arith))) ∙ append-nil (made f count x));
-    rest = P.rest;
+        (P.buffer ∙ rw part-long (ap (λ (xs : List Float). made f count x ++ xs) (drop_of_length-le (take count was) {i = count} (omega (arith, part-long))) ∙ append-nil (made f count x)));
+    rest = P.rest ∙ rw part-long;
   }
+
+  pub part-zeros : (is : List Float) → is ≡ zeros (length (take count was)) → is ++ drop count was ≡ zeros count ++ drop count was
+  part-zeros is e = rw (e, part-long)
 
 -- ---- zeros
 

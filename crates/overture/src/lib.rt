@@ -3,15 +3,17 @@
 // Where a stage ends, the rest of the buffer is lent on to the next stage's writer.
 #![tactic(auto)]
 
-ghost use Rattle.std.specs.Prelude.{◌≡◌, leb, true, ◌++◌, ◌≤◌, ◌<◌, length, drop};
+ghost use Rattle.std.specs.Prelude.{◌≡◌, Float, leb, true, ◌≤◌, ◌<◌, length};
 ghost use Rattle.schedule.specs.Length.{cj_bits};
+ghost use Rattle.schedule.specs.Time.{time_at, saturating_inc};
 ghost use Rattle.stage.specs.declared.StageState.TheVariants.{OffHook, DialTone, Ringback, Ansam, Cj, Connected};
 ghost use Rattle.stage.specs.Next.{dial_state, onward};
 ghost use Rattle.tones.specs.declared.Mixed.{Mixed};
 ghost use Rattle.nco.specs.declared.Nco.{Nco};
 ghost use Rattle.fsk.specs.Channel.{next_channel};
-ghost use Rattle.fsk.specs.Played.{PlayedIs};
+ghost use Rattle.fsk.specs.Played.{Source, PlayedIs};
 ghost use Rattle.tones.specs.Mixed.{gated_of, answer_of};
+ghost use Rattle.tones.specs.Samples.{shifted, click_sample};
 ghost use Rattle.overture.specs.Iteration.{after, samples, shown_after, zeros};
 ghost use Rattle.overture.specs.declared.Sent.{Sent};
 ghost use Rattle.overture.specs.Writers.{WroteIs, SentIs, AllSent, mixing, clicking};
@@ -70,79 +72,80 @@ pub fn silence(out: &mut [f32])
     out.fill(0.0);
 }
 
-// Zeros over the part's front.
-fn write_zeros(count: usize, out: &mut [f32])
-    requires { count ≤ length out.old }
-    ensures { out.new ≡ zeros count ++ drop count out.old }
-{
-    silence(&mut out[..count]);
-}
-
-fn play_click(rng: u64, n: u32, rate: u32, count: usize, out: &mut [f32]) -> Click
-    requires { count ≤ length out.old }
-    ensures { PlayedIs (clicking rate) count (record { rng = rng; n = n }) out.old out.new result }
-{
-    let mut x = rng;
-    let mut k = n;
-    for sample in &mut out[..count] {
-        x = tones::shift(x);
-        *sample = math::narrow(tones::click_sample(x, schedule::seconds(k, rate)));
-        k = k.saturating_add(1);
-    }
-    Click { rng: x, n: k }
-}
-
-// Two oscillators over the part's front, mixed sample by sample. In each caller, so that the loop holds them in registers.
+// Samples over the whole part, and what is in hand after them. In each caller, so that the loop holds it in registers.
 #[inline(always)]
-fn play<F: Fn(Nco, Nco) -> Mixed>(mix: F, a: Nco, b: Nco, count: usize, out: &mut [f32]) -> Pair
-    requires callable { F.IsAlwaysCallable mix }
-    requires room { count ≤ length out.old }
-    ensures { (f : Nco → Nco → Mixed) → ((x y : Nco) (m : Mixed) → F.post mix x y m → m ≡ f x y)
-        → PlayedIs (mixing f) count (record { a = a; b = b }) out.old out.new result }
+fn play<X: Copy, F: Fn(X) -> (f64, X)>(step: F, first: X, out: &mut [f32]) -> X
+    requires { F.IsAlwaysCallable step }
+    ensures { (f : Source X) → ((x : X) (s : Float) (y : X) → F.post step x (s, y) → (s ≡ f.sample x) × (y ≡ f.next x))
+        → PlayedIs f (length out.old) first out.old out.new result }
 {
-    let mut x = a;
-    let mut y = b;
-    for sample in &mut out[..count] {
-        let m = mix(x, y);
-        *sample = math::narrow(m.sample);
-        x = m.a;
-        y = m.b;
+    let mut x = first;
+    for sample in out.iter_mut() {
+        let (made, next) = step(x);
+        *sample = math::narrow(made);
+        x = next;
     }
-    Pair { a: x, b: y }
+    x
 }
 
-// Two tones over the part's front.
-fn play_tones(a: Nco, b: Nco, count: usize, out: &mut [f32]) -> Pair
-    requires { count ≤ length out.old }
-    ensures { PlayedIs (mixing (gated_of true)) count (record { a = a; b = b }) out.old out.new result }
+impl Click {
+    // One sample, and the click after it.
+    #[tactic(auto, using(schedule::proofs::Count::saturating_inc_is))]
+    fn step(self, rate: u32) -> (f64, Click)
+        ensures { (result.0 ≡ click_sample (shifted self.rng) (time_at rate self.n)) × (result.1 ≡ record { rng = shifted self.rng; n = saturating_inc self.n }) }
+    {
+        let rng = tones::shift(self.rng);
+        let sample = tones::click_sample(rng, schedule::seconds(self.n, rate));
+        let n = self.n.saturating_add(1);
+        (sample, Click { rng, n })
+    }
+}
+
+fn play_click(first: Click, rate: u32, out: &mut [f32]) -> Click
+    ensures { PlayedIs (clicking rate) (length out.old) first out.old out.new result }
 {
-    play(tones::two_tones, a, b, count, out)
+    play(|click: Click| click.step(rate), first, out)
+}
+
+// Two oscillators, mixed sample by sample.
+#[inline(always)]
+fn play_mixed<F: Fn(Nco, Nco) -> Mixed>(mix: F, first: Pair, out: &mut [f32]) -> Pair
+    requires { F.IsAlwaysCallable mix }
+    ensures { (f : Nco → Nco → Mixed) → ((x y : Nco) (m : Mixed) → F.post mix x y m → m ≡ f x y)
+        → PlayedIs (mixing f) (length out.old) first out.old out.new result }
+{
+    play(
+        |pair: Pair| {
+            let m = mix(pair.a, pair.b);
+            (m.sample, Pair { a: m.a, b: m.b })
+        },
+        first,
+        out,
+    )
+}
+
+fn play_tones(first: Pair, out: &mut [f32]) -> Pair
+    ensures { PlayedIs (mixing (gated_of true)) (length out.old) first out.old out.new result }
+{
+    play_mixed(tones::two_tones, first, out)
 }
 
 // In tone, or in a gap, in which they rest.
-fn play_gated(on: bool, a: Nco, b: Nco, count: usize, out: &mut [f32]) -> Pair
-    requires { count ≤ length out.old }
-    ensures { PlayedIs (mixing (gated_of on)) count (record { a = a; b = b }) out.old out.new result }
+fn play_gated(on: bool, first: Pair, out: &mut [f32]) -> Pair
+    ensures { PlayedIs (mixing (gated_of on)) (length out.old) first out.old out.new result }
 {
     if on {
-        return play_tones(a, b, count, out);
+        return play_tones(first, out);
     }
-    write_zeros(count, out);
-    Pair { a, b }
+    silence(out);
+    first
 }
 
 // ANSam at one sign.
-fn play_answer(carrier: Nco, env: Nco, sign: f64, count: usize, out: &mut [f32]) -> Pair
-    requires { count ≤ length out.old }
-    ensures { PlayedIs (mixing (λ x y. answer_of x y sign)) count (record { a = carrier; b = env }) out.old out.new result }
+fn play_answer(first: Pair, sign: f64, out: &mut [f32]) -> Pair
+    ensures { PlayedIs (mixing (λ x y. answer_of x y sign)) (length out.old) first out.old out.new result }
 {
-    play(
-        |x, y| tones::answer_tone(x, y, sign),
-        carrier,
-        env,
-        count,
-        out,
-    )
+    play_mixed(|x, y| tones::answer_tone(x, y, sign), first, out)
 }
 
 // A payload's bits on their channel, of which `total` are sent.
@@ -235,10 +238,8 @@ impl Call<'_> {
     {
         let end = schedule::stage_samples_for(stage::OFF_HOOK_S, self.rate);
         let count = runs::samples_left(n, end, out.len());
-        let c = play_click(rng, n, self.rate, count, out);
-        let k = c.n;
-        let state = StageState::OffHook { rng: c.rng, n: k };
-        Wrote::counted(state, k, end, count)
+        let Click { rng, n } = play_click(Click { rng, n }, self.rate, &mut out[..count]);
+        Wrote::counted(StageState::OffHook { rng, n }, n, end, count)
     }
 
     fn write_dial_tone(&self, a: Nco, b: Nco, n: u32, out: &mut [f32]) -> Wrote
@@ -246,7 +247,7 @@ impl Call<'_> {
     {
         let end = schedule::stage_samples_for(stage::DIAL_TONE_S, self.rate);
         let count = runs::samples_left(n, end, out.len());
-        let p = play_tones(a, b, count, out);
+        let p = play_tones(Pair { a, b }, &mut out[..count]);
         let k = runs::saturating_add(n, count);
         let state = StageState::DialTone {
             a: p.a,
@@ -288,7 +289,11 @@ impl Call<'_> {
         if i < self.digits.len() as u64 {
             let count = runs::dialling_run(i, on, n, self.rate, out.len());
             if count > 0 {
-                let p = play_gated(on, dial.a, dial.b, count, out);
+                let first = Pair {
+                    a: dial.a,
+                    b: dial.b,
+                };
+                let p = play_gated(on, first, &mut out[..count]);
                 let k = runs::saturating_add(n, count);
                 return Wrote {
                     state: StageState::Dialling {
@@ -313,7 +318,8 @@ impl Call<'_> {
         let left = runs::samples_left(n, end, out.len());
         let count = runs::ring_run(n, self.rate, left);
         let progress = schedule::ring_progress(schedule::seconds(n, self.rate));
-        let p = play_gated(schedule::ringback_gate(progress.time), a, b, count, out);
+        let on = schedule::ringback_gate(progress.time);
+        let p = play_gated(on, Pair { a, b }, &mut out[..count]);
         let k = runs::saturating_add(n, count);
         let state = StageState::Ringback {
             a: p.a,
@@ -331,7 +337,8 @@ impl Call<'_> {
         let left = runs::samples_left(n, end, out.len());
         let count = runs::reversal_run(n, self.rate, left);
         let sign = schedule::reversal_sign(schedule::seconds(n, self.rate));
-        let p = play_answer(carrier, env, sign, count, out);
+        let first = Pair { a: carrier, b: env };
+        let p = play_answer(first, sign, &mut out[..count]);
         let k = runs::saturating_add(n, count);
         let state = StageState::Ansam {
             carrier: p.a,
@@ -364,7 +371,7 @@ impl Call<'_> {
     {
         let end = schedule::stage_samples_for(stage::CJ_SILENCE_S, self.rate);
         let count = runs::samples_left(n, end, out.len());
-        write_zeros(count, out);
+        silence(&mut out[..count]);
         let k = runs::saturating_add(n, count);
         let state = StageState::Cj { fsk, silence_n: k };
         Wrote::counted(state, k, end, count)

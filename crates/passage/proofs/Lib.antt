@@ -4,6 +4,7 @@ pub mod Lasting
 pub mod Counted
 pub mod Bits
 pub mod Dialling
+pub mod Digits
 pub mod Connected
 pub mod Overture
 pub mod Cue

@@ -19,8 +19,8 @@ const BELL_103_LOW: Tones = Tones {
 const FRAME_BITS: u8 = 10;
 
 // The byte is the one whose frame is being sent, `begun` how many of its ten bits are begun: 0 if
-// there is none, a number and no Option, since C lends a sender in which it may be any. At an edge the
-// next sample's bit is still to be chosen.
+// there is none, a number and no Option, since 02 says how far it goes in a set that is sound, and a C
+// program's memory may hold any. At an edge the next sample's bit is still to be chosen.
 #[derive(Clone, Copy)]
 pub struct Sender {
     pub modulator: Modulator,

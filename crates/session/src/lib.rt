@@ -27,7 +27,8 @@ pub struct Session {
     pub digits: Digits,
     // samples written since the dial line
     pub m: u32,
-    // the number of the stage shown; 0 for none. C lends this memory, and any number in it has its answer, so it is no Option
+    // the number of the stage shown; 0 for none. It is no Option: 01 says which of its numbers are sound, and a C program's memory
+    // may hold any
     pub shown: u8,
     pub stage: StageState,
 }
@@ -48,6 +49,7 @@ impl From<SessionState> for u8 {
     }
 }
 
+// Else 0, as 01 reports it.
 fn ring(stage: StageState) -> u8
     ensures { result ≡ ring_of stage }
 {

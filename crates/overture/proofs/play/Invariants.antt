@@ -1,11 +1,10 @@
--- `play` meets its contract: the invariant is `Playing`, by whichever function tells what `mix` returns. Assumes nothing.
-use Rattle.std.proofs.Common.{◌≡◌}
-use Rattle.nco.specs.declared.Nco.{Nco}
-use Rattle.tones.specs.declared.Mixed.{Mixed}
-use Rattle.overture.specs.Writers.{mixing}
+-- `play` meets its contract: the invariant is `Playing`, by whichever source tells what `step` returns. Assumes nothing.
+use Rattle.std.proofs.Common.{◌≡◌, length}
+use Rattle.std.specs.Prelude.{Float}
+use Rattle.fsk.specs.Played.{Source}
 use Rattle.fsk.proofs.Played.{Playing}
 use Rattle.overture.proofs.play.Given as goal
 
 abbrev pub invariant-loop-sample : goal.invariant-loop-sample
-invariant-loop-sample g l = (f : Nco → Nco → Mixed) → ((x y : Nco) (m : Mixed) → goal.F-post g l.mix x y m → m ≡ f x y)
-    → Playing (mixing f) l.count (record { a = l.initial.x; b = l.initial.y }) l.initial.sample-items l.sample-items (record { a = l.x; b = l.y }) l.sample-index
+invariant-loop-sample g l = (f : Source g.row.X.Denot) → ((x : g.row.X.Denot) (s : Float) (y : g.row.X.Denot) → goal.F-post g l.step x (s, y) → (s ≡ f.sample x) × (y ≡ f.next x))
+    → Playing f (length l.fn.out) l.initial.x l.fn.out l.out l.x l.sample-index

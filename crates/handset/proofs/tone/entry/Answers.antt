@@ -1,5 +1,5 @@
 -- `tone::entry` meets its contract: it is the wave's entry, and each entry of the wave is right. Assumes nothing.
-use Rattle.std.proofs.Common.{◌≡◌, ℕ, ◌/◌, ◌^◌, ◌<◌, List, get_or, ℤ, pos, sym, ap, ◌∙◌, subst, w32, to_z, of_z}
+use Rattle.std.proofs.Common.{◌≡◌, ℕ, ◌/◌, ◌^◌, ◌<◌, List, get_or, ℤ, pos, sym, refl, ap, ◌∙◌, subst, w32, to_z, of_z}
 use Rattle.handset.specs.Rule.{IsSine}
 use Rattle.handset.specs.Wave.{wave}
 use Rattle.handset.specs.Tone.{entry_at}
@@ -16,4 +16,5 @@ read table phase e h =
     (back, subst (IsSine (phase / 2 ^ 22)) (sym back) (picked phase h))
 
 pub returns : goal.returns
-returns c = read c.args.table.now c.args.phase c.requires c.ranges.phase.fits
+unfolding wave
+returns c = read wave c.args.phase refl c.ranges.phase.fits

@@ -2,7 +2,6 @@
 use Rattle.std.proofs.Common.{◌≡◌, ℕ, suc, ◌+◌, ◌%◌, ◌^◌, ℤ, sym, refl, ap, ◌∙◌, add-zero, arith}
 use Rattle.std.specs.Prelude.{Some}
 use Rattle.handset.specs.declared.Tones.{Tones}
-use Rattle.handset.specs.Wave.{wave}
 use Rattle.handset.specs.Tone.{step_of, phase_after, mixed_at}
 use Rattle.handset.specs.Sound.{heard}
 use Rattle.handset.proofs.Gain.{sample-back}
@@ -38,7 +37,3 @@ loop-sample-preserved c = let inv = c.loop-sample.invariant in (
 
 pub returns : goal.returns
 returns c = full _ _ _ _ _ _ c.loop-sample.invariant.0 c.loop-sample-test.false
-
-pub mix-requires : goal.mix-requires
-unfolding wave
-mix-requires c = refl

@@ -1,4 +1,6 @@
 -- `write_ansam` meets its contract: a run of one sign is played, and with it the stage may end. Assumes nothing.
+use native.Mathlib.Nat.{le_trans}
+use Rattle.overture.proofs.Playing.{part-played}
 use Rattle.overture.proofs.Stages.{ansam-wrote}
 use Rattle.overture.proofs.Call.write_ansam.Goals as goal
 
@@ -7,4 +9,4 @@ returns c = rw c.counted.ensures (ansam-wrote _ _ _ _ _ _ _ _ _ c.samples_left-l
     c.stage_samples_for-end.ensures _ _
     c.seconds.ensures
     c.reversal_sign-sign.ensures
-    c.play_answer-p.ensures)
+    (part-played _ _ (le_trans c.reversal_run-count.ensures.fits c.samples_left-left.ensures.fits) _ _ _ _ c.play_answer-p.ensures))
