@@ -246,6 +246,7 @@ impl Set {
         Ok(self.take_bytes(bytes, carrier, out, codes))
     }
 
+    // The three places are counted: behind a loop over `chunks_exact_mut` a proof knows the length of `codes`, and nothing of what was written.
     fn take_bytes(self, bytes: &[u8], carrier: bool, out: &mut [u8], codes: &mut [u8]) -> TypedAll
         requires self_value { sound self ≡ true }
         requires bytes_len_bound { length bytes.now ≤ 256 }
