@@ -100,7 +100,7 @@ fn samples_of(digits: &[u8], rate: u32) -> [u32; 9]
     }
 }
 
-// The samples of a stage, by its number.
+// The samples of a stage, by its number; 0 outside 1 to 9 (02, E4).
 pub fn stage_samples(digits: &[u8], rate: u32, stage: u32) -> u32
     ensures { result ≡ stage_samples digits.now rate stage }
 {
