@@ -3,7 +3,7 @@
 // by `&` and `|`, which ask all of them, so that none is a branch.
 #![tactic(auto)]
 
-ghost use Rattle.std.specs.Prelude.{◌≡◌, true, ◌≤◌, ltb};
+ghost use Rattle.std.specs.Prelude.{◌≡◌, ◌≤◌, ltb};
 ghost use Rattle.schedule.specs.Time.{samples_in};
 ghost use Rattle.schedule.specs.Symbols.{in_symbol};
 ghost use Rattle.schedule.specs.Length.{dialling_length};
@@ -11,7 +11,7 @@ ghost use Rattle.soundness.specs.Sound.{rate_ok, digits_ok, nco_ok, modulator_ok
 
 use fsk::{FskChannel, Modulator};
 use nco::Nco;
-use schedule::{MAX_RATE, MIN_RATE};
+use schedule::{MAX_RATE, MIN_RATE, Rate};
 use stage::StageState;
 
 pub mod sending;
@@ -112,38 +112,38 @@ fn cj_ok(fsk: FskChannel, silence: u32, rate: u32) -> bool
         & ((fsk.done <= schedule::CJ_BITS) & goes_on(silence, stage::CJ_SILENCE_S, rate))
 }
 
-// A call that may be: its rate, in the limits, and how many digits it has, 76 at most.
+// A call that may be: its rate, and how many digits it has, 76 at most.
 #[derive(Clone, Copy)]
 struct Call {
     digits: u64,
-    rate: u32,
-    ghost rate_value: { rate_ok rate ≡ true },
+    rate: Rate,
     ghost few: { digits ≤ 76 },
 }
 
 impl Call {
     // n is below the samples of the digits: at n = 0 always, and from then on while i < d.
     fn dialling_goes_on(self, n: u32) -> bool
-        ensures { result ≡ ltb n (dialling_length self.rate self.digits) }
+        ensures { result ≡ ltb n (dialling_length self.rate.hertz self.digits) }
     {
-        let phase = schedule::dialling_phase(schedule::seconds(n, self.rate));
+        let phase = schedule::dialling_phase(schedule::seconds(n, self.rate.hertz));
         (n == 0) | (phase.digit < self.digits)
     }
 
     #[tactic(auto, unfolding(crate::specs::Sound::dialling_ok))]
     fn dialling_ok(self, digit: u64, a: Nco, b: Nco, n: u32) -> bool
-        ensures { result ≡ dialling_ok digit a b n self.digits self.rate }
+        ensures { result ≡ dialling_ok digit a b n self.digits self.rate.hertz }
     {
+        let rate = self.rate.hertz;
         digit_ok(digit, self.digits)
-            & (nco_ok(a, self.rate) & (nco_ok(b, self.rate) & self.dialling_goes_on(n)))
+            & (nco_ok(a, rate) & (nco_ok(b, rate) & self.dialling_goes_on(n)))
     }
 
     // A state by its kind.
     #[tactic(auto, unfolding(crate::specs::Sound::state_ok))]
     fn state_ok(self, state: StageState) -> bool
-        ensures { result ≡ state_ok state self.digits self.rate }
+        ensures { result ≡ state_ok state self.digits self.rate.hertz }
     {
-        let rate = self.rate;
+        let rate = self.rate.hertz;
         match state {
             StageState::OffHook { rng: _, n } => goes_on(n, stage::OFF_HOOK_S, rate),
             StageState::DialTone { a, b, n } => tones_ok(a, b, n, stage::DIAL_TONE_S, rate),
@@ -176,12 +176,14 @@ impl Call {
 pub fn sound_state(state: StageState, digits: &[u8], rate: u32) -> bool
     ensures { result ≡ sound_state state digits.now rate }
 {
-    if rate_ok(rate) && digits_ok(digits) {
-        let call = Call {
-            digits: digits.len() as u64,
-            rate,
-        };
-        return call.state_ok(state);
+    match Rate::new(rate) {
+        Some(rate) if digits_ok(digits) => {
+            let call = Call {
+                digits: digits.len() as u64,
+                rate,
+            };
+            call.state_ok(state)
+        }
+        _ => false,
     }
-    false
 }
