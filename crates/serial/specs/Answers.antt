@@ -3,7 +3,6 @@
 use Rattle.std.specs.Prelude.{ℕ, min, List, [], ◌∷◌, length, take, replicate, Result, Option, None, Some}
 use Rattle.ascii.specs.Ascii.{ascii}
 use Rattle.text.specs.Page.{Page, add_of}
-use Rattle.text.specs.Digits.{decimal_of}
 use Rattle.text.specs.Fields.{numbered, hex_on}
 use Rattle.report.specs.Report.{mode_text}
 use Rattle.at.specs.Processor.{command_mode}

@@ -6,7 +6,6 @@ use mathlib.Core.Path.{◌≡◌, refl}
 use mathlib.Core.List.{List, [], ◌∷◌}
 use lib.ListN.{length, drop, get_or, drop_of_length-le}
 use lib.Seq.{drop-cons}
-use Rattle.ascii.specs.Ascii.{ascii}
 use Rattle.text.specs.Page.{Page, add_of}
 use Rattle.text.specs.Digits.{last_digits}
 use Rattle.text.specs.Fields.{in_hex, hex_on}
