@@ -1,45 +1,17 @@
 -- `Set::take_bytes` meets its contract: the invariant is `Typing`; the part of the outbox that a byte was lent comes back by `typing-again`. Assumes
 -- nothing.
-use lib.ListN.{length-set}
 use native.Mathlib.Omega.{arith}
 use Rattle.set.proofs.String.{typing-start, typing-again, typing-end}
 use Rattle.set.proofs.Set.take_bytes.Goals as goal
 
 pub loop-i-init : goal.loop-i-init
-loop-i-init c = typing-start _ _ _ _ _ c.requires.self_value
-
-pub slice_bounds-take_byte-count : goal.slice_bounds-take_byte-count
-slice_bounds-take_byte-count c = omega (arith, c.loop-i.invariant.few, c.loop-i.invariant.out-long, c.loop-i-test.true, c.requires.bytes_len_bound)
-
-pub overflow_mul-place : goal.overflow_mul-place
-overflow_mul-place c = omega (arith, c.loop-i-test.true, c.requires.bytes_len_bound)
-
-pub bounds-codes-place : goal.bounds-codes-place
-bounds-codes-place c = omega (arith, c.loop-i.invariant.codes-long, c.loop-i-test.true, c.requires.bytes_len_bound)
-
-pub overflow_add-codes : goal.overflow_add-codes
-overflow_add-codes c = omega (arith, c.loop-i-test.true, c.requires.bytes_len_bound)
-
-pub bounds-codes-place-in-loop-i : goal.bounds-codes-place-in-loop-i
-bounds-codes-place-in-loop-i c = rw length-set (omega (arith, c.loop-i.invariant.codes-long, c.loop-i-test.true, c.requires.bytes_len_bound))
-
-pub overflow_add-codes-in-loop-i : goal.overflow_add-codes-in-loop-i
-overflow_add-codes-in-loop-i c = omega (arith, c.loop-i-test.true, c.requires.bytes_len_bound)
-
-pub bounds-codes-place-in-loop-i-2 : goal.bounds-codes-place-in-loop-i-2
-bounds-codes-place-in-loop-i-2 c = rw (length-set, length-set) (omega (arith, c.loop-i.invariant.codes-long, c.loop-i-test.true, c.requires.bytes_len_bound))
+loop-i-init c = typing-start _ _ _ _ _ c.requires.is_sound
 
 pub overflow_add-at : goal.overflow_add-at
-overflow_add-at c = omega (arith, (typing-again _ _ _ _ _ _ _ _ _ _ c.loop-i.invariant c.loop-i-test.true c.requires.bytes_in_bounds c.requires.bytes_in_bounds_2 _ _ _ _ _ c.take_byte-t.ensures.value c.take_byte-t.ensures.out_after c.first.ensures c.second.ensures c.s12.ensures).few, c.loop-i-test.true, c.requires.bytes_len_bound)
+overflow_add-at c = omega (arith, (typing-again _ _ _ _ _ _ _ _ _ _ c.loop-i.invariant c.loop-i-test.true c.requires.outbox_room c.requires.codes_room _ _ _ _ _ c.take_byte-t.ensures.value c.take_byte-t.ensures.out_after c.first.ensures c.second.ensures c.s12.ensures).few, c.loop-i-test.true, c.requires.few)
 
 pub loop-i-preserved : goal.loop-i-preserved
-loop-i-preserved c = typing-again _ _ _ _ _ _ _ _ _ _ c.loop-i.invariant c.loop-i-test.true c.requires.bytes_in_bounds c.requires.bytes_in_bounds_2 _ _ _ _ _ c.take_byte-t.ensures.value c.take_byte-t.ensures.out_after c.first.ensures c.second.ensures c.s12.ensures
-
-pub shape_of-out : goal.shape_of-out
-shape_of-out c = c.loop-i.invariant.out-long
-
-pub shape_of-codes : goal.shape_of-codes
-shape_of-codes c = c.loop-i.invariant.codes-long
+loop-i-preserved c = typing-again _ _ _ _ _ _ _ _ _ _ c.loop-i.invariant c.loop-i-test.true c.requires.outbox_room c.requires.codes_room _ _ _ _ _ c.take_byte-t.ensures.value c.take_byte-t.ensures.out_after c.first.ensures c.second.ensures c.s12.ensures
 
 pub returns : goal.returns
 returns c = let e = typing-end _ _ _ _ _ _ _ _ _ _ c.loop-i.invariant c.loop-i-test.false in record { set_value = e.set; sent_value = e.count; out_after = e.wrote; codes_after = e.coded }
