@@ -53,8 +53,8 @@ pub fn read_fresh(digits: &[u8], rate: u32, out: &mut [f32]) -> overture::Filled
 pub fn process_out(set: Set, out: &mut [f32]) -> Result<Filled, Refusal>
     ensures value { result ≡ fill set (length out.old) }
     ensures out_after { out.new ≡ buffer set out.old }
-    ensures all_in_level { set.session.state ≡ Dialling → IsOk result → AllInLevel out.new }
-    ensures all_in_level_2 { set.session.state ≡ Connected → IsOk result → AllInLevel out.new }
+    ensures dialling_in_level { set.session.state ≡ Dialling → IsOk result → AllInLevel out.new }
+    ensures connected_in_level { set.session.state ≡ Connected → IsOk result → AllInLevel out.new }
 {
     set.process_out(out)
 }

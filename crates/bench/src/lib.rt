@@ -28,7 +28,7 @@ fn typed(mut set: Set, bytes: &[u8]) -> Set {
 fn filled(mut set: Set, part: usize, out: &mut [f32]) -> Set {
     if part > 0 {
         for samples in out.chunks_mut(part) {
-            set = set.process_out(samples).map_or(set, |filled| filled.set);
+            set = set.after_fill(samples);
         }
     }
     set
@@ -39,15 +39,11 @@ fn played(rate: u32, digits: &[u8], skip: usize) -> Set {
     let mut set = dialled(rate, digits);
     let mut scratch = [0.0; 4096];
     for _ in 0..skip / 4096 {
-        set = set
-            .process_out(&mut scratch)
-            .map_or(set, |filled| filled.set);
+        set = set.after_fill(&mut scratch);
     }
     // an empty fill would change the stage shown
     if skip % 4096 > 0 {
-        set = set
-            .process_out(&mut scratch[..skip % 4096])
-            .map_or(set, |filled| filled.set);
+        set = set.after_fill(&mut scratch[..skip % 4096]);
     }
     set
 }
@@ -101,7 +97,7 @@ pub extern "C" fn bench_sent(
 pub extern "C" fn bench_empty_fills(rate: u32, digits: &[u8], skip: usize, turns: u64) -> u32 {
     let mut set = played(rate, digits, skip);
     for _ in 0..turns {
-        set = set.process_out(&mut []).map_or(set, |filled| filled.set);
+        set = set.after_fill(&mut []);
     }
     set.m()
 }

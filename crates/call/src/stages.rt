@@ -34,9 +34,7 @@ fn find_in(set: Set, n: usize, samples: &mut [f32], firsts: &mut [u32]) -> Set {
     if some > samples.len() {
         return set;
     }
-    let next = set
-        .process_out(&mut samples[..n])
-        .map_or(set, |filled| filled.set);
+    let next = set.after_fill(&mut samples[..n]);
     note(
         set,
         edges::icon(set).unwrap_or(0),

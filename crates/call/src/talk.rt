@@ -24,7 +24,7 @@ impl<'a> Talk<'a> {
     pub fn fill(self, samples: &mut [f32]) -> Self {
         let Talk { set, rest, .. } = self.queue();
         let mark = self.mark_left(samples.len());
-        let set = set.process_out(samples).map_or(set, |filled| filled.set);
+        let set = set.after_fill(samples);
         Talk { set, rest, mark }
     }
 

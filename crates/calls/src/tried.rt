@@ -102,9 +102,7 @@ pub fn sender(output: &impl Print, name: &[u8], set: Set) {
 
 fn put_sending(page: &mut Entry, set: Set) {
     let mut samples = [1.23f32; 2];
-    let after = set
-        .process_out(&mut samples)
-        .map_or(set, |filled| filled.set);
+    let after = set.after_fill(&mut samples);
     put_samples(page, &samples);
     put_number(page, b" m ", u64::from(after.m()));
     put_waiting(page, after);

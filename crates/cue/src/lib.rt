@@ -48,12 +48,9 @@ fn cue_key(set: Set, position: u32) -> Option<Key>
 fn cue_cause(set: Set, position: u32) -> Result<(), Refusal>
     ensures { result ≡ cue_cause set position }
 {
-    if !set.sound() {
-        return Err(Refusal::Unsound);
-    }
-    let state = set.session.state;
-    let len = set.session.digits.len;
-    if (state == SessionState::Dialling) & ((position as usize) < len) {
+    set.sound_cause()?;
+    let dialled = set.digits().len;
+    if set.state() == SessionState::Dialling && (position as usize) < dialled {
         return Ok(());
     }
     Err(Refusal::Position)

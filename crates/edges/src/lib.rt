@@ -3,7 +3,7 @@
 #![tactic(auto)]
 
 ghost use Rattle.std.specs.Prelude.{◌≡◌, ◌≤◌, leb, length};
-ghost use Rattle.set.specs.Set.{fill, buffer, set_filled};
+ghost use Rattle.set.specs.Set.{buffer};
 ghost use Rattle.edges.specs.Icon.{icon_of, shown, icon_after, IsFirst, FirstIs};
 
 use refusal::Refusal;
@@ -16,9 +16,7 @@ use set::Set;
 pub fn icon(set: Set) -> Result<u8, Refusal>
     ensures { result ≡ shown set }
 {
-    if !set.sound() {
-        return Err(Refusal::Unsound);
-    }
+    set.sound_cause()?;
     Ok(icon_number(set))
 }
 
@@ -67,15 +65,5 @@ fn shows(set: Set, stage: u8, n: usize, samples: &mut [f32]) -> bool
     requires { n ≤ length samples.old }
     ensures { result ≡ leb stage (icon_after set n) }
 {
-    stage <= icon_number(after_fill(set, &mut samples[..n]))
-}
-
-// The set that a fill leaves, declined or not.
-fn after_fill(set: Set, samples: &mut [f32]) -> Set
-    ensures { result ≡ set_filled set (fill set (length samples.old)) }
-{
-    match set.process_out(samples) {
-        Ok(filled) => filled.set,
-        Err(_) => set,
-    }
+    stage <= icon_number(set.after_fill(&mut samples[..n]))
 }

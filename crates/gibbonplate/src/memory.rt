@@ -1,7 +1,6 @@
 // The set in seven arrays that the caller lends.
 ghost use Rattle.std.specs.Prelude.{◌≡◌, true, false};
 ghost use Rattle.set.specs.Sound.{sound};
-ghost use Rattle.set.specs.Set.{fresh_set};
 ghost use Rattle.gibbonplate.specs.Memory.{memory, stored, holds_set, too_many_bits, plain_in, processor_in, sending_in, set_in, loaded};
 
 use crate::plain;
@@ -211,21 +210,7 @@ impl Memory {
     }
 }
 
-fn no_set() -> Set
-    ensures { result ≡ fresh_set 0 }
-{
-    let processor = AtProcessor::new();
-    let session = Session::new();
-    let sending = Sending::new(0);
-    Set {
-        rate: 0,
-        processor,
-        session,
-        sending,
-    }
-}
-
-// The set that memory holds; of memory that holds none, an unsound one.
+// The set that memory holds; of memory that holds none, a fresh one at rate 0, which is unsound.
 pub fn load(
     longs: &[u64; 6],
     counts: &[u32; 4],
@@ -236,8 +221,8 @@ pub fn load(
     queue: &[u8; 256],
 ) -> Set
     ensures value { result ≡ loaded (memory longs.now counts.now reals.now marks.now line.now keys.now queue.now) }
-    ensures result_value { holds_set marks.now ≡ false → sound result ≡ false }
-    ensures result_value_2 { too_many_bits counts.now marks.now ≡ true → sound result ≡ false }
+    ensures unsound_with_no_set { holds_set marks.now ≡ false → sound result ≡ false }
+    ensures unsound_with_too_many_bits { too_many_bits counts.now marks.now ≡ true → sound result ≡ false }
 {
     let memory = Memory {
         longs: *longs,
@@ -251,7 +236,7 @@ pub fn load(
     if memory.holds_set() {
         return memory.set();
     }
-    no_set()
+    Set::fresh(0)
 }
 
 // Lays the set into memory.
@@ -265,8 +250,8 @@ pub fn store(
     keys: &mut [u8; 76],
     queue: &mut [u8; 256],
 )
-    ensures queue_after { memory longs.new counts.new reals.new marks.new line.new keys.new queue.new ≡ stored set }
-    ensures queue_after_2 { loaded (memory longs.new counts.new reals.new marks.new line.new keys.new queue.new) ≡ set }
+    ensures value { memory longs.new counts.new reals.new marks.new line.new keys.new queue.new ≡ stored set }
+    ensures back { loaded (memory longs.new counts.new reals.new marks.new line.new keys.new queue.new) ≡ set }
 {
     let memory = Memory::of(set);
     longs.copy_from_slice(&memory.longs);

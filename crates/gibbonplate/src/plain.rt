@@ -66,7 +66,7 @@ fn bits_plain(number: u8, fsk: FskChannel, zeros: u32) -> PlainStage
 
 pub fn plain(stage: StageState) -> PlainStage
     ensures value { result ≡ plain stage }
-    ensures result_value { staged result ≡ stage }
+    ensures back { staged result ≡ stage }
 {
     match stage {
         StageState::OffHook { rng, n } => PlainStage {

@@ -16,7 +16,8 @@ const BELL_103_LOW: Tones = Tones {
     space: 1070.0,
 };
 
-const FRAME_BITS: u8 = 10;
+// A start bit, eight of data, a stop bit.
+pub const FRAME_BITS: u8 = 10;
 
 // The byte is the one whose frame is being sent, `begun` how many of its ten bits are begun: 0 if
 // there is none, a number and no Option, since 02 says how far it goes in a set that is sound, and a C

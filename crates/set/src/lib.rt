@@ -10,7 +10,7 @@ ghost use Rattle.at.specs.At.{sent};
 ghost use Rattle.at.specs.Processor.{command_mode};
 ghost use Rattle.set.specs.Refusals.{cause_of_sound};
 ghost use Rattle.set.specs.Sound.{sound};
-ghost use Rattle.set.specs.Set.{s12_of, obeyed, fresh_set, creation_cause, made, typing_cause, byte_typed, typed, outbox, sending_for, lapsed, forced, is_up_in, raised_if, fill_cause, fill, buffer, queuing_cause, byte_queued, rung};
+ghost use Rattle.set.specs.Set.{s12_of, obeyed, fresh_set, creation_cause, made, typing_cause, byte_typed, typed, outbox, sending_for, lapsed, forced, is_up_in, raised_if, fill_cause, fill, buffer, set_filled, queuing_cause, byte_queued, rung};
 ghost use Rattle.set.specs.String.{set_by, sent_by, codes_by, at_front, string_cause, typed_all, outbox_all, codes_all};
 
 use at::{AtProcessor, Control, Outcome};
@@ -68,25 +68,13 @@ pub struct Lapsed {
     pub reply: Reply,
 }
 
+// As session's, with the set in its place. The field is named for what it holds: of one type for both, callers would read
+// `filled.value.session`.
 #[derive(Clone, Copy)]
 pub struct Filled {
     pub set: Set,
     // that of the last sample
     pub key: Option<Key>,
-}
-
-fn fresh(rate: u32) -> Set
-    ensures { result ≡ fresh_set rate }
-{
-    let processor = AtProcessor::new();
-    let session = Session::new();
-    let sending = Sending::new(rate);
-    Set {
-        rate,
-        processor,
-        session,
-        sending,
-    }
 }
 
 // Dial, answer and hang-up empty the queue.
@@ -129,13 +117,25 @@ fn creation_cause(rate: u32) -> Result<(), Refusal>
 }
 
 impl Set {
-    // A fresh set: Idle, with the fresh AT processor.
+    // A fresh set: Idle, with the fresh AT processor. At a rate outside the limits it is unsound, and every call declines it.
+    pub fn fresh(rate: u32) -> Set
+        ensures { result ≡ fresh_set rate }
+    {
+        Set {
+            rate,
+            processor: AtProcessor::new(),
+            session: Session::new(),
+            sending: Sending::new(rate),
+        }
+    }
+
+    // The fresh set at the rate, or at 8,000 where the rate is declined.
     #[tactic(auto, unfolding(crate::specs::Set::made, crate::specs::Refusals::accepted))]
     pub fn new(rate: u32) -> Made
         ensures { result ≡ made rate }
     {
         let checked = creation_cause(rate);
-        let set = fresh(if checked.is_ok() { rate } else { 8000 });
+        let set = Set::fresh(if checked.is_ok() { rate } else { 8000 });
         Made { set, checked }
     }
 
@@ -157,7 +157,7 @@ impl Set {
     }
 
     // The cause of a call that is declined for an unsound set alone.
-    fn sound_cause(self) -> Result<(), Refusal>
+    pub fn sound_cause(self) -> Result<(), Refusal>
         ensures { result ≡ cause_of_sound (sound self) }
     {
         if self.sound() {
@@ -222,7 +222,7 @@ impl Set {
         if n > MAX_STRING {
             return Err(Refusal::StringLength);
         }
-        if (room < 4 * n) | (places < 3 * n) {
+        if room < 4 * n || places < 3 * n {
             return Err(Refusal::StringRoom);
         }
         Ok(())
@@ -248,10 +248,10 @@ impl Set {
 
     // The three places are counted: behind a loop over `chunks_exact_mut` a proof knows the length of `codes`, and nothing of what was written.
     fn take_bytes(self, bytes: &[u8], carrier: bool, out: &mut [u8], codes: &mut [u8]) -> TypedAll
-        requires self_value { sound self ≡ true }
-        requires bytes_len_bound { length bytes.now ≤ 256 }
-        requires bytes_in_bounds { 4 * length bytes.now ≤ length out.old }
-        requires bytes_in_bounds_2 { 3 * length bytes.now ≤ length codes.old }
+        requires is_sound { sound self ≡ true }
+        requires few { length bytes.now ≤ 256 }
+        requires outbox_room { 4 * length bytes.now ≤ length out.old }
+        requires codes_room { 3 * length bytes.now ≤ length codes.old }
         ensures set_value { result.set ≡ set_by self bytes.now carrier }
         ensures sent_value { result.sent ≡ length (sent_by self bytes.now carrier) }
         ensures out_after { out.new ≡ at_front (sent_by self bytes.now carrier) out.old }
@@ -339,13 +339,20 @@ impl Set {
         })
     }
 
+    // The set that a fill leaves, declined or not.
+    pub fn after_fill(self, out: &mut [f32]) -> Set
+        ensures value { result ≡ set_filled self (fill self (length out.old)) }
+        ensures buffer_after { out.new ≡ buffer self out.old }
+    {
+        self.process_out(out).map_or(self, |filled| filled.set)
+    }
+
     #[tactic(auto, unfolding(crate::specs::Set::queuing_cause))]
     fn queuing_cause(self) -> Result<(), Refusal>
         ensures { result ≡ queuing_cause self }
     {
         self.sound_cause()?;
-        let queue = self.sending.queue;
-        if queue.is_full() {
+        if self.sending.queue.is_full() {
             return Err(Refusal::QueueFull);
         }
         Ok(())
@@ -379,8 +386,7 @@ impl Set {
     pub fn state(self) -> SessionState
         ensures { result ≡ self.session.state }
     {
-        let session = self.session;
-        session.state
+        self.session.state
     }
 
     // The number of the stage shown; 0 for none.

@@ -16,8 +16,6 @@ use stage::StageState;
 
 pub mod sending;
 
-const MAX_DIGITS: usize = 76;
-
 // Rate in limits.
 #[tactic(auto, unfolding(crate::specs::Sound::rate_ok))]
 pub fn rate_ok(rate: u32) -> bool
@@ -31,7 +29,7 @@ pub fn rate_ok(rate: u32) -> bool
 pub fn digits_ok(digits: &[u8]) -> bool
     ensures { result ≡ digits_ok digits.now }
 {
-    if digits.len() <= MAX_DIGITS {
+    if digits.len() as u64 <= schedule::MAX_DIGITS {
         return keys::all_keys(digits);
     }
     false

@@ -2,9 +2,7 @@
 ghost use Rattle.std.specs.Prelude.{◌≡◌};
 ghost use Rattle.soundness.specs.Sending.{sender_ok, sending_ok};
 
-use sender::{Sender, Sending};
-
-const FRAME_BITS: u8 = 10;
+use sender::{FRAME_BITS, Sender, Sending};
 
 pub fn sender_ok(sender: Sender, rate: u32) -> bool
     ensures { result ≡ sender_ok sender rate }

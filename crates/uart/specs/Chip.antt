@@ -51,6 +51,10 @@ moved c s reply flag =
 abbrev pub waits : Chip → Bool
 waits c = not (is_empty c.inbox.queue)
 
+-- what identification reads
+abbrev pub identification_of : Chip → ℕ
+identification_of c = identification c.registers.enable c.inbox.overrun (waits c) c.registers.pending c.registers.delta
+
 abbrev pub value_of : Chip → ℕ → ℕ
 value_of c address = value_at c.registers (oldest c.inbox.queue) (waits c) c.inbox.overrun (dcd c) address
 
@@ -62,7 +66,7 @@ abbrev pub identified : Chip → Chip
 identified c =
     record {
       set = c.set;
-      registers = with_pending (pending_after (identification c.registers.enable c.inbox.overrun (waits c) c.registers.pending c.registers.delta) c.registers.pending) c.registers;
+      registers = with_pending (pending_after (identification_of c) c.registers.pending) c.registers;
       inbox = c.inbox;
     }
 

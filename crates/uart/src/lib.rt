@@ -2,12 +2,13 @@
 // the receive register. Every call takes the chip that the one before returned.
 #![tactic(auto)]
 
-ghost use Rattle.std.specs.Prelude.{◌≡◌, ◌<◌, true, leb, length};
+ghost use Rattle.std.specs.Prelude.{◌≡◌, ◌<◌, ◌^◌, length};
 ghost use Rattle.at.specs.Processor.{command_mode};
 ghost use Rattle.set.specs.Set as set;
+ghost use Rattle.set.specs.Refusals.{cause_of_sound};
 ghost use Rattle.uart.specs.Inbox.{closed, text_of_reply, came, received};
-ghost use Rattle.uart.specs.Registers.{bit, address_of, RegisterAt, identification, line_status, modem_status, settled, with_enable, stored, value_at};
-ghost use Rattle.uart.specs.Chip.{started, sound, dcd, moved, value_of, chip_after, text_read, identified, line_status_read, modem_status_read, read_if, read, transmitted, written, write_if, write, outbox_if, outbox, lapse_taken, lapsed, fill_taken, filled, buffer};
+ghost use Rattle.uart.specs.Registers.{bit, address_of, RegisterAt, interrupt_number, given_number, line_status, modem_status, settled, pending_after, with_pending, with_enable, stored};
+ghost use Rattle.uart.specs.Chip.{started, sound, dcd, moved, identification_of, value_of, chip_after, read, transmitted, written, write, outbox, lapsed, filled, buffer};
 
 use keys::Key;
 use queue::Queue;
@@ -16,8 +17,8 @@ use reply::{Code, Reply};
 use session::SessionState;
 use set::Set;
 
-// What the sheet's registers hold. Identification and the two status registers are worked out.
-#[derive(Clone, Copy)]
+// What the sheet's registers hold. Identification and the two status registers are worked out. By default as after master reset.
+#[derive(Clone, Copy, Default)]
 pub struct Registers {
     pub enable: u8,
     pub line: u8,
@@ -51,12 +52,24 @@ enum Register {
     Scratch,
 }
 
+// What may interrupt, by the number that identification reads.
+#[derive(Clone, Copy)]
+enum Interrupt {
+    ModemStatus = 0,
+    TransmitterEmpty = 2,
+    Text = 4,
+    LineStatus = 6,
+}
+
 #[derive(Clone, Copy)]
 pub struct Chip {
     pub set: Set,
     pub registers: Registers,
     pub inbox: Inbox,
 }
+
+// The answers below differ from set's `Made`, `TypedAll` and `Filled` in what they hold. Their field says which, so that callers
+// read `written.chip`; one type over it would say `value` for set and chip alike.
 
 // A chip is handed out whatever the rate: at 8,000 where the rate is declined.
 #[derive(Clone, Copy)]
@@ -105,6 +118,15 @@ impl TryFrom<u8> for Register {
     }
 }
 
+impl From<Interrupt> for u8 {
+    ghost from_gives = { λ interrupt number. number ≡ interrupt_number interrupt };
+
+    #[tactic(auto, unfolding(crate::specs::Registers::interrupt_number))]
+    fn from(interrupt: Interrupt) -> u8 {
+        interrupt as u8
+    }
+}
+
 impl Inbox {
     // One byte more; where no place is left it is lost.
     fn byte(&mut self, byte: u8)
@@ -147,21 +169,21 @@ impl Inbox {
     }
 }
 
-// The bits of interrupt enable, by their weights.
-const TEXT: u8 = 1;
+// The bits of interrupt enable, by their places.
+const TEXT: u32 = 0;
 
-const TRANSMITTER_EMPTY: u8 = 2;
+const TRANSMITTER_EMPTY: u32 = 1;
 
-const LINE_STATUS: u8 = 4;
+const LINE_STATUS: u32 = 2;
 
-const MODEM_STATUS: u8 = 8;
+const MODEM_STATUS: u32 = 3;
 
-// Whether the bit of this weight is set.
-fn is_set(value: u8, weight: u8) -> bool
-    requires { 0 < weight }
-    ensures { result ≡ bit weight value }
+// Whether the bit at this place is set.
+fn is_set(value: u8, place: u32) -> bool
+    requires { place < 8 }
+    ensures { result ≡ bit (2 ^ place) value }
 {
-    value / weight % 2 == 1
+    value >> place & 1 == 1
 }
 
 #[tactic(auto, unfolding(crate::specs::Registers::line_status))]
@@ -179,88 +201,49 @@ fn modem_status(delta: bool, dcd: bool) -> u8
 }
 
 impl Registers {
-    // The first that is enabled and is to be given.
-    #[tactic(auto, unfolding(crate::specs::Registers::identification))]
-    fn identification(self, overrun: bool, waits: bool) -> u8
-        ensures { result ≡ identification self.enable overrun waits self.pending self.delta }
-    {
-        if is_set(self.enable, LINE_STATUS) && overrun {
-            6
-        } else if is_set(self.enable, TEXT) && waits {
-            4
-        } else if is_set(self.enable, TRANSMITTER_EMPTY) && self.pending {
-            2
-        } else if is_set(self.enable, MODEM_STATUS) && self.delta {
-            0
-        } else {
-            1
-        }
-    }
-
     // The flag handed in last, and whether DCD changed.
-    fn settle(self, before: SessionState, after: SessionState, flag: bool) -> Registers
-        ensures { result ≡ settled self before after flag }
+    fn settle(&mut self, before: SessionState, after: SessionState, flag: bool)
+        ensures { self.new ≡ settled self.old before after flag }
     {
         let was = control::heard_in(before, self.flag);
         let is = control::heard_in(after, flag);
-        Registers {
-            flag,
-            delta: self.delta | (was != is),
-            ..self
+        self.flag = flag;
+        self.delta |= was != is;
+    }
+
+    // An identification read gives an interrupt: transmitter empty is then no longer pending.
+    #[tactic(auto, unfolding(crate::specs::Registers::interrupt_number))]
+    fn give(&mut self, given: Option<Interrupt>)
+        ensures { self.new ≡ with_pending (pending_after (given_number given) self.old.pending) self.old }
+    {
+        if let Some(Interrupt::TransmitterEmpty) = given {
+            self.pending = false;
         }
     }
 
     #[tactic(auto, unfolding(crate::specs::Registers::with_enable))]
-    fn with_enable(self, value: u8) -> Registers
-        ensures { result ≡ with_enable self value }
+    fn set_enable(&mut self, value: u8)
+        ensures { self.new ≡ with_enable self.old value }
     {
-        let rises = !is_set(self.enable, TRANSMITTER_EMPTY) & is_set(value, TRANSMITTER_EMPTY);
-        Registers {
-            enable: value % 16,
-            pending: self.pending | rises,
-            ..self
-        }
+        let rises = !is_set(self.enable, TRANSMITTER_EMPTY) && is_set(value, TRANSMITTER_EMPTY);
+        self.enable = value % 16;
+        self.pending |= rises;
     }
 
     // A write to a register that types nothing.
     #[tactic(auto, unfolding(crate::specs::Registers::stored))]
-    fn store(self, register: Register, value: u8) -> Registers
-        ensures { result ≡ stored self (address_of register) value }
+    fn store(&mut self, register: Register, value: u8)
+        ensures { self.new ≡ stored self.old (address_of register) value }
     {
         match register {
-            Register::Enable => self.with_enable(value),
-            Register::LineControl => Registers {
-                line: value,
-                ..self
-            },
-            Register::ModemControl => Registers {
-                modem: value % 32,
-                ..self
-            },
-            Register::Scratch => Registers {
-                scratch: value,
-                ..self
-            },
+            Register::Enable => self.set_enable(value),
+            Register::LineControl => self.line = value,
+            Register::ModemControl => self.modem = value % 32,
+            Register::Scratch => self.scratch = value,
             Register::Data
             | Register::Identification
             | Register::LineStatus
-            | Register::ModemStatus => self,
-        }
-    }
-
-    #[tactic(auto, unfolding(crate::specs::Registers::value_at))]
-    fn value(self, oldest: u8, waits: bool, overrun: bool, dcd: bool, register: Register) -> u8
-        ensures { result ≡ value_at self oldest waits overrun dcd (address_of register) }
-    {
-        match register {
-            Register::Data => oldest,
-            Register::Enable => self.enable % 16,
-            Register::Identification => self.identification(overrun, waits),
-            Register::LineControl => self.line,
-            Register::ModemControl => self.modem % 32,
-            Register::LineStatus => line_status(overrun, waits),
-            Register::ModemStatus => modem_status(self.delta, dcd),
-            Register::Scratch => self.scratch,
+            | Register::ModemStatus => {}
         }
     }
 }
@@ -272,15 +255,6 @@ impl Chip {
         ensures { result ≡ started rate }
     {
         let made = Set::new(rate);
-        let registers = Registers {
-            enable: 0,
-            line: 0,
-            modem: 0,
-            scratch: 0,
-            pending: false,
-            flag: false,
-            delta: false,
-        };
         let inbox = Inbox {
             queue: Queue::new(),
             overrun: false,
@@ -288,7 +262,7 @@ impl Chip {
         Start {
             chip: Chip {
                 set: made.set,
-                registers,
+                registers: Registers::default(),
                 inbox,
             },
             checked: made.checked,
@@ -300,7 +274,7 @@ impl Chip {
     pub fn sound(self) -> bool
         ensures { result ≡ sound self }
     {
-        self.set.sound() & self.inbox.queue.ok()
+        self.set.sound() && self.inbox.queue.ok()
     }
 
     // DCD: the flag last handed in, false in Idle.
@@ -336,79 +310,84 @@ impl Chip {
     }
 
     // The set moved on, with a reply, and with the flag last handed in.
-    fn moved(self, set: Set, reply: Reply, flag: bool) -> Chip
-        ensures { result ≡ moved self set reply flag }
+    fn move_on(&mut self, set: Set, reply: Reply, flag: bool)
+        ensures { self.new ≡ moved self.old set reply flag }
     {
-        let mut inbox = self.inbox;
-        inbox.take(reply, set.s12());
-        Chip {
-            set,
-            registers: self.registers.settle(self.set.state(), set.state(), flag),
-            inbox,
+        self.inbox.take(reply, set.s12());
+        self.registers.settle(self.set.state(), set.state(), flag);
+        self.set = set;
+    }
+
+    // The first that is enabled and is to be given.
+    #[tactic(auto, unfolding(crate::specs::Registers::identification, crate::specs::Registers::interrupt_number))]
+    fn interrupt(&self) -> Option<Interrupt>
+        ensures { given_number result ≡ identification_of self.now }
+    {
+        let Registers {
+            enable,
+            pending,
+            delta,
+            ..
+        } = self.registers;
+        let waits = !self.inbox.queue.is_empty();
+        if is_set(enable, LINE_STATUS) && self.inbox.overrun {
+            Some(Interrupt::LineStatus)
+        } else if is_set(enable, TEXT) && waits {
+            Some(Interrupt::Text)
+        } else if is_set(enable, TRANSMITTER_EMPTY) && pending {
+            Some(Interrupt::TransmitterEmpty)
+        } else if is_set(enable, MODEM_STATUS) && delta {
+            Some(Interrupt::ModemStatus)
+        } else {
+            None
         }
     }
 
-    fn value(self, register: Register) -> u8
-        ensures { result ≡ value_of self (address_of register) }
-    {
-        let Inbox { queue, overrun } = self.inbox;
-        let oldest = queue.oldest().unwrap_or(0);
-        self.registers
-            .value(oldest, !queue.is_empty(), overrun, self.dcd(), register)
-    }
-
-    fn text_read(self) -> Chip
-        ensures { result ≡ text_read self }
-    {
-        let mut inbox = self.inbox;
-        let _ = inbox.queue.pop();
-        Chip { inbox, ..self }
-    }
-
-    fn identified(self) -> Chip
-        ensures { result ≡ identified self }
-    {
-        let waits = !self.inbox.queue.is_empty();
-        let given = self.registers.identification(self.inbox.overrun, waits);
-        let registers = Registers {
-            pending: self.registers.pending & (given != 2),
-            ..self.registers
-        };
-        Chip { registers, ..self }
-    }
-
-    fn line_status_read(self) -> Chip
-        ensures { result ≡ line_status_read self }
-    {
-        let inbox = Inbox {
-            overrun: false,
-            ..self.inbox
-        };
-        Chip { inbox, ..self }
-    }
-
-    fn modem_status_read(self) -> Chip
-        ensures { result ≡ modem_status_read self }
-    {
-        let registers = Registers {
-            delta: false,
-            ..self.registers
-        };
-        Chip { registers, ..self }
-    }
-
-    #[tactic(auto, unfolding(crate::specs::Chip::chip_after))]
-    fn after_read(self, register: Register) -> Chip
-        ensures { result ≡ chip_after self (address_of register) }
+    // What a register reads: 1 of identification says that there is none to be given.
+    #[tactic(auto, unfolding(crate::specs::Registers::value_at))]
+    fn value(&self, register: Register) -> u8
+        ensures { result ≡ value_of self.now (address_of register) }
     {
         match register {
-            Register::Data => self.text_read(),
-            Register::Identification => self.identified(),
-            Register::LineStatus => self.line_status_read(),
-            Register::ModemStatus => self.modem_status_read(),
-            Register::Enable | Register::LineControl | Register::ModemControl | Register::Scratch =>
-                self,
+            Register::Data => self.inbox.queue.oldest().unwrap_or(0),
+            Register::Enable => self.registers.enable % 16,
+            Register::Identification => self.interrupt().map_or(1, u8::from),
+            Register::LineControl => self.registers.line,
+            Register::ModemControl => self.registers.modem % 32,
+            Register::LineStatus => line_status(self.inbox.overrun, !self.inbox.queue.is_empty()),
+            Register::ModemStatus => modem_status(self.registers.delta, self.dcd()),
+            Register::Scratch => self.registers.scratch,
         }
+    }
+
+    // What reading does: text leaves, transmitter empty is given, overrun ends, DCD's delta ends.
+    #[tactic(auto, unfolding(crate::specs::Chip::chip_after))]
+    fn after_read(&mut self, register: Register)
+        ensures { self.new ≡ chip_after self.old (address_of register) }
+    {
+        match register {
+            Register::Data => {
+                let _ = self.inbox.queue.pop();
+            }
+            Register::Identification => {
+                let given = self.interrupt();
+                self.registers.give(given);
+            }
+            Register::LineStatus => self.inbox.overrun = false,
+            Register::ModemStatus => self.registers.delta = false,
+            Register::Enable | Register::LineControl | Register::ModemControl | Register::Scratch =>
+                {}
+        }
+    }
+
+    // The cause of a call that is declined for an unsound chip.
+    fn sound_cause(&self) -> Result<(), Refusal>
+        ensures { result ≡ cause_of_sound (sound self.now) }
+    {
+        if self.sound() {
+            return Ok(());
+        }
+        Err(Refusal::Unsound)
     }
 
     // A register is read.
@@ -416,20 +395,12 @@ impl Chip {
     pub fn read(self, address: u8) -> Result<Read, Refusal>
         ensures { result ≡ read self address }
     {
-        if !self.sound() {
-            return Err(Refusal::Unsound);
-        }
-        self.read_sound(address)
-    }
-
-    fn read_sound(self, address: u8) -> Result<Read, Refusal>
-        ensures { result ≡ read_if true (leb address 7) self address }
-    {
+        self.sound_cause()?;
         let register = Register::try_from(address)?;
-        Ok(Read {
-            chip: self.after_read(register),
-            value: self.value(register),
-        })
+        let value = self.value(register);
+        let mut chip = self;
+        chip.after_read(register);
+        Ok(Read { chip, value })
     }
 
     // A register is written; a byte for address 0 is typed into the set.
@@ -444,22 +415,7 @@ impl Chip {
         ensures value { result ≡ write self address value carrier (length out.old) }
         ensures out_after { out.new ≡ outbox self address value out.old }
     {
-        if !self.sound() {
-            return Err(Refusal::Unsound);
-        }
-        self.write_sound(address, value, carrier, out)
-    }
-
-    fn write_sound(
-        self,
-        address: u8,
-        value: u8,
-        carrier: bool,
-        out: &mut [u8],
-    ) -> Result<Written, Refusal>
-        ensures value { result ≡ write_if true (leb address 7) self address value carrier (length out.old) }
-        ensures out_after { out.new ≡ outbox_if true (leb address 7) self address value out.old }
-    {
+        self.sound_cause()?;
         match Register::try_from(address)? {
             Register::Data => self.transmit(value, carrier, out),
             register => Ok(self.store(register, value)),
@@ -469,13 +425,9 @@ impl Chip {
     fn store(self, register: Register, value: u8) -> Written
         ensures { result ≡ written self (address_of register) value }
     {
-        Written {
-            chip: Chip {
-                registers: self.registers.store(register, value),
-                ..self
-            },
-            sent: 0,
-        }
+        let mut chip = self;
+        chip.registers.store(register, value);
+        Written { chip, sent: 0 }
     }
 
     fn transmit(self, value: u8, carrier: bool, out: &mut [u8]) -> Result<Written, Refusal>
@@ -483,13 +435,11 @@ impl Chip {
         ensures out_after { out.new ≡ set.outbox self.set value out.old }
     {
         let typed = self.set.feed(value, carrier, out)?;
-        let moved = self.moved(typed.set, typed.reply, carrier);
-        let registers = Registers {
-            pending: true,
-            ..moved.registers
-        };
+        let mut chip = self;
+        chip.move_on(typed.set, typed.reply, carrier);
+        chip.registers.pending = true;
         Ok(Written {
-            chip: Chip { registers, ..moved },
+            chip,
             sent: typed.sent,
         })
     }
@@ -499,17 +449,11 @@ impl Chip {
     pub fn lapse(self, ns: u64, carrier: bool) -> Result<Chip, Refusal>
         ensures { result ≡ lapsed self ns carrier }
     {
-        if !self.sound() {
-            return Err(Refusal::Unsound);
-        }
-        self.lapse_sound(ns, carrier)
-    }
-
-    fn lapse_sound(self, ns: u64, carrier: bool) -> Result<Chip, Refusal>
-        ensures { result ≡ lapse_taken self carrier (set.lapsed self.set ns carrier) }
-    {
+        self.sound_cause()?;
         let lapsed = self.set.advance_time(ns, carrier)?;
-        Ok(self.moved(lapsed.set, lapsed.reply, carrier))
+        let mut chip = self;
+        chip.move_on(lapsed.set, lapsed.reply, carrier);
+        Ok(chip)
     }
 
     // Fills the buffer with what the house hears next.
@@ -518,19 +462,12 @@ impl Chip {
         ensures value { result ≡ filled self (length out.old) }
         ensures out_after { out.new ≡ buffer self out.old }
     {
-        if !self.sound() {
-            return Err(Refusal::Unsound);
-        }
-        self.fill_sound(out)
-    }
-
-    fn fill_sound(self, out: &mut [f32]) -> Result<Fill, Refusal>
-        ensures value { result ≡ fill_taken self (set.fill self.set (length out.old)) }
-        ensures out_after { out.new ≡ set.buffer self.set out.old }
-    {
+        self.sound_cause()?;
         let filled = self.set.process_out(out)?;
+        let mut chip = self;
+        chip.move_on(filled.set, Reply::None, self.registers.flag);
         Ok(Fill {
-            chip: self.moved(filled.set, Reply::None, self.registers.flag),
+            chip,
             key: filled.key,
         })
     }

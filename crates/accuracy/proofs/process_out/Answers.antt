@@ -36,6 +36,6 @@ returns c = let answer = c.process_out.ensures.value in
     record {
       value = answer;
       out_after = left;
-      all_in_level = λ dialling taken. rw left (fill-level s was (fill-taken s _ (rw answer at taken)) (held (goal.at.returns c).Start) dialling);
-      all_in_level_2 = λ up taken. rw left (up-level s was (fill-taken s _ (rw answer at taken)) up);
+      dialling_in_level = λ dialling taken. rw left (fill-level s was (fill-taken s _ (rw answer at taken)) (held (goal.at.returns c).Start) dialling);
+      connected_in_level = λ up taken. rw left (up-level s was (fill-taken s _ (rw answer at taken)) up);
     }

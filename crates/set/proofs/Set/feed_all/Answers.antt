@@ -10,7 +10,7 @@ use Rattle.set.proofs.Set.feed_all.Goals as goal
 pub take_bytes-requires : goal.take_bytes-requires
 unfolding accepted
 take_bytes-requires c = let f = fits _ _ _ _ (sym (ap accepted c.in_ok-string_cause.ensures)) in
-    record { self_value = f.sound; bytes_len_bound = f.few; bytes_in_bounds = f.outbox; bytes_in_bounds_2 = f.codes }
+    record { is_sound = f.sound; few = f.few; outbox_room = f.outbox; codes_room = f.codes }
 
 pub returns : goal.returns
 unfolding typed_all outbox_all codes_all accepted

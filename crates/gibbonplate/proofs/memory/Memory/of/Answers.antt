@@ -11,7 +11,7 @@ flag-is false = refl
 
 pub returns : goal.returns
 unfolding stored
-returns c = let p = laid _ _ _ (c.plain-x.ensures.value, c.plain-x.ensures.result_value)
+returns c = let p = laid _ _ _ (c.plain-x.ensures.value, c.plain-x.ensures.back)
     (rw (
       c.from-6.ensures ∙ flag-is _,
       c.from-5.ensures ∙ flag-is _,
