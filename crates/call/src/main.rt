@@ -82,9 +82,6 @@ fn call<R: Files + Print, E: Print>(
 }
 
 // T, or with samples sent after the line went up all there are: none is left out between the two.
-fn with_sent(total: u32, up: u32, sent: u32) -> u32 {
-    if sent == 0 {
-        return total;
-    }
-    up.wrapping_add(sent)
+fn with_sent(total: u32, up: u32, sent: Option<u32>) -> u32 {
+    sent.map_or(total, |sent| up.wrapping_add(sent))
 }

@@ -66,7 +66,7 @@ pub fn record(
         let n = length(fill);
         if n <= samples.len() {
             let part = &mut samples[..n];
-            talk = talk.fill(part);
+            talk.fill(part);
             // Samples past the total are not written.
             let kept = at_most(part.len(), left);
             write(file, &part[..kept as usize], &mut bytes)?;
@@ -76,6 +76,7 @@ pub fn record(
     Ok(())
 }
 
+// The least of both, told by a clause: what is taken from it and cut by it needs both bounds.
 pub fn at_most(length: usize, most: u32) -> u32
     ensures { (result ≤ length) × (result ≤ most) }
 {

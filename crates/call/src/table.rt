@@ -14,7 +14,7 @@ pub fn print(
     firsts: &[u32; 11],
     dialled: Set,
     up: u32,
-    sent: u32,
+    sent: Option<u32>,
 ) {
     let mut page = Table::new();
     let rate = dialled.rate();
@@ -29,6 +29,7 @@ pub fn print(
 }
 
 fn put_stages(page: &mut Table, firsts: &[u32; 11], rate: u32) {
+    // by place, which is the number that is printed
     for stage in 1..10 {
         let first = firsts[stage];
         put_stage(page, stage, first);
@@ -43,7 +44,7 @@ fn put_stage(page: &mut Table, stage: usize, first: u32) {
     let _ = write!(page, "{stage:5}  {name:9}{first:9}");
 }
 
-// The Rust's names.
+// The Rust's names, by 01's numbers, which are the places in `firsts`: a Stage would be made of its number first.
 fn name(stage: usize) -> &'static str {
     match stage {
         1 => "OffHook",
@@ -118,8 +119,8 @@ fn put_end(page: &mut Table, total: u32, rate: u32, up: u32) {
 }
 
 // The last sample of the fill in which the text's last frame ended, of a call that has one.
-fn put_sent(page: &mut Table, up: u32, sent: u32, rate: u32) {
-    if sent > 0 {
+fn put_sent(page: &mut Table, up: u32, sent: Option<u32>, rate: u32) {
+    if let Some(sent) = sent {
         let last = up.wrapping_add(sent);
         let _ = write!(page, "TEXT was sent by sample {last}, ");
         page.put_seconds(last, rate);

@@ -21,53 +21,42 @@ impl<'a> Talk<'a> {
     }
 
     // The fill that follows, with what is queued before it.
-    pub fn fill(self, samples: &mut [f32]) -> Self {
-        let Talk { set, rest, .. } = self.queue();
-        let mark = self.mark_left(samples.len());
-        let set = set.after_fill(samples);
-        Talk { set, rest, mark }
+    pub fn fill(&mut self, samples: &mut [f32]) {
+        if self.mark == 0 {
+            self.queue();
+        }
+        // What the overture fills is no mark.
+        if !play::is_dialling(self.set) {
+            self.mark -= play::at_most(samples.len(), self.mark);
+        }
+        self.set = self.set.after_fill(samples);
     }
 
-    // Queues what there is room for, once the line is up and mark was heard.
-    fn queue(self) -> Self {
-        if self.mark > 0 {
-            return self;
-        }
-        let mut set = self.set;
-        for (i, byte) in self.rest.iter().enumerate() {
-            match set.queue_byte(*byte) {
-                Ok(queued) => set = queued,
+    // Queues what there is room for.
+    fn queue(&mut self) {
+        let rest = self.rest;
+        for (i, byte) in rest.iter().enumerate() {
+            match self.set.queue_byte(*byte) {
+                Ok(queued) => self.set = queued,
                 Err(_) => {
-                    return Talk {
-                        set,
-                        rest: &self.rest[i..],
-                        mark: 0,
-                    };
+                    self.rest = &rest[i..];
+                    return;
                 }
             }
         }
-        Talk {
-            set,
-            rest: b"",
-            mark: 0,
-        }
+        self.rest = b"";
     }
 
-    // The samples of mark that are to come after a fill of n: what the overture fills is none.
-    fn mark_left(self, n: usize) -> u32 {
-        if play::is_dialling(self.set) {
-            return self.mark;
-        }
-        self.mark - play::at_most(n, self.mark)
-    }
-
-    fn goes_on(self) -> bool {
+    fn goes_on(&self) -> bool {
         !self.rest.is_empty() || is_sending(self.set)
     }
 }
 
-// The samples of the fills from the one behind `fill` others to the one in which the text's last frame ends.
-pub fn length(set: Set, fill: u32, message: &[u8], samples: &mut [f32]) -> u32 {
+// The samples of the fills from the one behind `fill` others to the one in which the text's last frame ends; None where there is no text.
+pub fn length(set: Set, fill: u32, message: &[u8], samples: &mut [f32]) -> Option<u32> {
+    if message.is_empty() {
+        return None;
+    }
     let mut talk = Talk::new(set, message);
     let mut total: u32 = 0;
     // A proved loop has to end: no text takes as many fills as this one allows.
@@ -77,11 +66,11 @@ pub fn length(set: Set, fill: u32, message: &[u8], samples: &mut [f32]) -> u32 {
         }
         let n = play::length(at);
         if n <= samples.len() {
-            talk = talk.fill(&mut samples[..n]);
+            talk.fill(&mut samples[..n]);
         }
         total = total.wrapping_add(play::at_most(n, u32::MAX));
     }
-    total
+    Some(total)
 }
 
 // A byte waits, or the last frame has not ended yet.
