@@ -7,7 +7,7 @@ ghost use Rattle.std.specs.Prelude.{◌≤◌};
 use deframe::Deframer;
 use set::Set;
 
-// A set at the rate that dialled the digits.
+// A set at the rate that dialled the digits, as `call` makes one: no program's crate lies under a library for C.
 fn dialled(rate: u32, digits: &[u8]) -> Set {
     let made = Set::new(rate);
     let set = typed(typed(made.set, b"ATDT"), digits);

@@ -104,7 +104,7 @@ fn put_key(page: &mut Table, digit: u8, key: Option<Key>, sample: u64, rate: u32
     put_seconds(page, first.saturating_sub(1), rate, 20);
 }
 
-// A word, with spaces in front up to a width.
+// A word, with spaces in front up to a width. A width of `write!` is of text, and a key may be a byte that is no text.
 fn put_right(page: &mut Table, word: &[u8], width: usize) {
     for _ in word.len()..width {
         page.put_byte(b' ');

@@ -23,7 +23,8 @@ use nco::Nco;
 use stage::{Shown, StageState};
 use tones::{Dial, Mixed};
 
-// The state after the samples written, whether its stage ended with them, and how many they are.
+// The state after the samples written, whether its stage ended with them, and how many they are: state and count are
+// there in both cases, so no Option.
 #[derive(Clone, Copy)]
 pub struct Wrote {
     pub state: StageState,

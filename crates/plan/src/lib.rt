@@ -110,7 +110,8 @@ pub fn stage_samples(digits: &[u8], rate: u32, stage: u32) -> u32
     0
 }
 
-// T. At a rate of 01 and with no more bytes than a dial line has, it is the overture's length, with demand 3's bounds.
+// T. At a rate of 01 and with no more bytes than a dial line has, it is the overture's length, with demand 3's bounds. It takes any
+// number, and may not ask for a Rate.
 pub fn total_samples(digits: &[u8], rate: u32) -> u32
     ensures value { result ≡ total_samples digits.now rate }
     ensures has_length { min_rate ≤ rate → rate ≤ max_rate → length digits.now ≤ max_digits → HasLength (digits_of digits.now) rate result }

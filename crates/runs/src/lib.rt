@@ -41,6 +41,7 @@ fn same_reversal(s: f64, t: f64) -> bool
     math::floor(s / schedule::ANSAM_REVERSAL_S) == math::floor(t / schedule::ANSAM_REVERSAL_S)
 }
 
+// Its tests are joined by `&`, as all here, so that none is a branch.
 fn same_part(u: f64, v: f64) -> bool
     ensures { result ≡ same_part u v }
 {

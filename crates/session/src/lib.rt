@@ -79,7 +79,8 @@ impl Session {
         Session::hangup()
     }
 
-    // Starts the overture for the line's bytes after ATDT. At a rate of 01 it has one length, T, with demand 3's bounds.
+    // Starts the overture for the line's bytes after ATDT. At a rate of 01 it has one length, T, with demand 3's bounds. It takes any
+    // number, and may not ask for a Rate.
     #[tactic(auto, unfolding(crate::specs::Session::dialling))]
     pub fn dial(line: &[u8], rate: u32) -> Session
         ensures value { result ≡ dialling line.now rate }

@@ -72,7 +72,7 @@ fn ring_ok(ring: u8) -> bool
     (ring == 1) | (ring == 2)
 }
 
-// n is below R(duration).
+// n is below R(duration). What follows takes a case of StageState apart, oscillator by oscillator.
 fn goes_on(n: u32, duration: f64, rate: u32) -> bool
     ensures { result ≡ ltb n (samples_in duration rate) }
 {

@@ -88,7 +88,7 @@ pub fn ansam_sample(carrier: f64, env: f64, sign: f64) -> f64
     carrier_sample * envelope * ANSAM_SCALE
 }
 
-// Two oscillators mixed. `Nco::next` would have a loop read them in other pieces than they were stored, which a short buffer notices.
+// Two oscillators mixed, which take a case of StageState apart. `Nco::next` would have a loop read them in other pieces than they were stored, which a short buffer notices.
 #[tactic(auto, unfolding(crate::specs::Mixed::gated_of))]
 pub fn two_tones(a: Nco, b: Nco) -> Mixed
     ensures { result ≡ gated_of true a b }
@@ -211,7 +211,7 @@ pub fn dial_step(dial: Dial, n: u32, digits: &[u8], rate: u32) -> Dialled
     }
 }
 
-// One sample of ANSam, at its sign.
+// One sample of ANSam, at its sign, of the two oscillators that its case of StageState holds.
 #[tactic(auto, unfolding(crate::specs::Mixed::answer_of))]
 pub fn answer_tone(carrier: Nco, env: Nco, sign: f64) -> Mixed
     ensures { result ≡ answer_of carrier env sign }
