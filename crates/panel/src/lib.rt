@@ -48,12 +48,7 @@ struct Panel {
 }
 
 // The whole program.
-pub fn run(
-    input: &mut impl Read,
-    output: &impl Print,
-    errors: &impl Print,
-    form: Form,
-) {
+pub fn run(input: &mut impl Read, output: &impl Print, errors: &impl Print, form: Form) {
     console::stream::run(input, output, errors, &mut Panel::new(form));
 }
 

@@ -219,7 +219,12 @@ fn feed_all(set: Set, string: &[u8], carrier: bool, outbox: &mut [u8], codes: &m
         Ok(all) => {
             let sent = all.sent;
             let places = 3 * string.len();
-            show(all.set, Ok(()), Reply::None, Second::String { sent, places })
+            show(
+                all.set,
+                Ok(()),
+                Reply::None,
+                Second::String { sent, places },
+            )
         }
         Err(refusal) => {
             let sent = 0;
