@@ -10,7 +10,7 @@ call: rt
 	@bin/call
 	@echo "call.wav is written; what the toolchain said is in target/call.log"
 
-# The show: sound and icons live, over JACK. It is built to target/bin/show.
+# The show: sound and icons live, over JACK, and its panel in a browser. It is built to target/bin/show.
 show: rt
 	show/build
 
@@ -53,6 +53,8 @@ edits: rt
 c: rt
 	tests/c/run
 
-# The show on servers of its own, with JACK's dummy driver.
+# The show on servers of its own, with JACK's dummy driver; then its panel in a browser and its cues, where there is one to try them with.
 stage: rt
 	tests/show/run
+	tests/show/words
+	for part in run hostile refuse; do tests/panel/$$part || [ $$? -eq 3 ] || exit 1; done
