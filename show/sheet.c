@@ -22,8 +22,10 @@ enum { WORD = 512 };
 
 typedef struct {
     XML_Parser parser;
-    FILE *words, *faults;
+    FILE *words, *faults, *touched;
     unsigned element; /* of the document, from 0 */
+    const char *id;   /* of that element, or null */
+    bool touch;       /* it has been told among the touches */
     unsigned count;   /* of words written */
     unsigned touches;
     bool icons[12], keys[16], mute;
@@ -164,6 +166,18 @@ static bool is_ascii(const char *text)
     return true;
 }
 
+/* A line for each element that is touched, with all that a touch does. */
+static void tell_touch(reading *r, const char *does, const char *text)
+{
+    if (r->touch)
+        fputs("; ", r->touched);
+    else
+        fprintf(r->touched, "%s%ld %s ", r->touches ? "\n" : "", (long)XML_GetCurrentByteIndex(r->parser), r->id ? r->id : "-");
+    fprintf(r->touched, *text ? "%s %s" : "%s", does, text);
+    r->touches += !r->touch;
+    r->touch = true;
+}
+
 /* type-ATA, keys +++, put 5, carrier, wait 1, hangup: whether the word is a touch. */
 static bool touch_word(reading *r, const char *word)
 {
@@ -192,7 +206,7 @@ static bool touch_word(reading *r, const char *word)
         put_field(r, "touch", does);
         put_field(r, "text", text);
         end_word(r);
-        r->touches++;
+        tell_touch(r, does, text);
     }
     return true;
 }
@@ -330,6 +344,8 @@ static void XMLCALL begin_element(void *with, const char *name, const char **pai
         XML_StopParser(r->parser, XML_FALSE);
         return;
     }
+    r->id = id;
+    r->touch = false;
     look_at_links(r, name, pairs);
     if (id)
         read_id(r, id);
@@ -404,8 +420,9 @@ bool sheet_take(sheet *s, const char *svg, size_t len)
     r.parser = XML_ParserCreateNS("UTF-8", '|');
     r.words = open_memstream(&s->words, &size);
     r.faults = open_memstream(&other, &size);
+    r.touched = open_memstream(&s->touches, &size);
     lacking = open_memstream(&s->faults, &size);
-    good = s->svg && r.parser && r.words && r.faults && lacking;
+    good = s->svg && r.parser && r.words && r.faults && r.touched && lacking;
     if (good) {
         memcpy(s->svg, svg, len);
         s->svg[len] = 0;
@@ -424,6 +441,8 @@ bool sheet_take(sheet *s, const char *svg, size_t len)
         fclose(r.words);
     if (r.faults)
         fclose(r.faults);
+    if (r.touched)
+        fclose(r.touched);
     if (lacking)
         fclose(lacking);
     XML_ParserFree(r.parser);
@@ -466,6 +485,7 @@ void sheet_free(sheet *s)
     free(s->words);
     free(s->has);
     free(s->faults);
+    free(s->touches);
     free(s->wrong);
     *s = (sheet){0};
 }

@@ -641,9 +641,10 @@ int main(int argc, char **argv)
     d.outlets[1] = outlet_of("show-osc-in", "liblo-dev", 0, &d.opt.osc_in);
     d.outlets[2] = outlet_of("show-osc", "liblo-dev", 20, &d.opt.osc);
     if (d.opt.check_sheet) {
-        char *words[] = {"show-web", "--check-sheet", (char *)d.opt.check_sheet, NULL};
+        outlet checker = {.name = "show-sheet", .needs = "libexpat1-dev"};
+        char *words[] = {"show-sheet", (char *)d.opt.check_sheet, NULL};
 
-        outlet_become(&d.outlets[0], words);
+        outlet_become(&checker, words);
         return 1;
     }
     panel_guard();

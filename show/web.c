@@ -2,7 +2,6 @@
  * show-web: the panel in a browser. `show --http PORT` starts it and hands it every change over descriptor 3.
  *
  *     show-web --http PORT [--listen ADDR] [--name HOST] [--token WORD] [--sheet FILE]
- *     show-web --check-sheet FILE
  */
 #define _GNU_SOURCE
 #include "web.h"
@@ -72,12 +71,11 @@ static bool usage(const char *why, const char *word)
     return false;
 }
 
-static bool read_options(web *w, const char **check, int argc, char **argv)
+static bool read_options(web *w, int argc, char **argv)
 {
     static const struct option known[] = {
         {"http", required_argument, NULL, 'h'},  {"listen", required_argument, NULL, 'l'}, {"name", required_argument, NULL, 'n'},
-        {"token", required_argument, NULL, 't'}, {"sheet", required_argument, NULL, 's'},  {"check-sheet", required_argument, NULL, 'c'},
-        {NULL, 0, NULL, 0},
+        {"token", required_argument, NULL, 't'}, {"sheet", required_argument, NULL, 's'},  {NULL, 0, NULL, 0},
     };
     int which;
 
@@ -89,13 +87,12 @@ static bool read_options(web *w, const char **check, int argc, char **argv)
                           : which == 'n' ? &w->name
                           : which == 't' ? &w->token
                           : which == 's' ? &w->sheet_path
-                          : which == 'c' ? check
                                          : NULL;
         if (!to)
             return usage("a panel in a browser takes no such option", "");
         *to = optarg;
     }
-    return w->port || *check || usage("a panel in a browser wants --http PORT", "");
+    return w->port || usage("a panel in a browser wants --http PORT", "");
 }
 
 static bool check_options(const web *w)
@@ -111,20 +108,6 @@ static bool check_options(const web *w)
     if (w->token && (len < 8 || len > 60 || strspn(w->token, "abcdefghijklmnopqrstuvwxyzABCDEFGHIJKLMNOPQRSTUVWXYZ0123456789-_") != len))
         return usage("a token has 8 to 60 letters, digits, - and _", "");
     return true;
-}
-
-static int check_sheet(const char *path)
-{
-    sheet s;
-    bool good = sheet_read(&s, path);
-
-    if (good)
-        printf("%s: %s\n%s", path, s.has, s.faults);
-    else
-        fprintf(stderr, "show: \"%s\" cannot be shown: %s\n", path, s.wrong ? s.wrong : "there is no memory for it");
-    good = good && s.faults[0] == 0 && fflush(stdout) == 0;
-    sheet_free(&s);
-    return good ? 0 : 1;
 }
 
 /* Those that say nothing, or half a request, are dropped soon, so that a panel can join again. */
@@ -171,13 +154,10 @@ int main(int argc, char **argv)
 {
     static web w;
     struct lws_context *context;
-    const char *check = NULL;
     char address[SHOW_TEXT];
 
-    if (!read_options(&w, &check, argc, argv))
+    if (!read_options(&w, argc, argv))
         return 1;
-    if (check)
-        return check_sheet(check);
     if (!check_options(&w))
         return 1;
     if (!w.token && !is_loopback(w.listen) && !access_make_token(&w))

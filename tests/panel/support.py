@@ -18,7 +18,7 @@ import time
 
 ROOT = pathlib.Path(__file__).resolve().parents[2]
 OUT = ROOT / "target" / "panel"
-PROGRAMS = ("show", "show-web", "show-osc", "show-osc-in")
+OUTLETS = ("show-web", "show-osc", "show-osc-in")
 DEBIAN = "/usr/bin/python3"
 PATIENCE = 30  # seconds: after them what is waited for does not come
 
