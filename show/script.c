@@ -6,7 +6,7 @@
  *     carrier         turns the flag over
  *     hangup          hangs up at once
  *     wait SECONDS
- *     until ICON      a number, 1 to 10, or a name
+ *     until ICON      a number or a name; 11 is carrier, and 0 is none of the ten
  *     buffer FRAMES
  *     end             ends the show
  *     # a comment
@@ -32,20 +32,20 @@ static const char *read_seconds(const char *text, uint64_t *ns)
     return NULL;
 }
 
-/* An icon by its number or its name. Carrier is a flag and no stage: nothing waits for it. */
+/* An icon by its number or its name; 0 is none of the ten. */
 static const char *read_icon(const char *text, uint32_t *number)
 {
     char *end;
     long n = strtol(text, &end, 10);
     int i;
 
-    for (i = 1; i <= 10; i++)
+    for (i = 1; i <= 11; i++)
         if (strcasecmp(text, show_names[i]) == 0) {
             *number = (uint32_t)i;
             return NULL;
         }
-    if (end == text || *end || n < 1 || n > 10)
-        return "`until` takes an icon that a call lights, 1 to 10 or its name";
+    if (end == text || *end || n < 0 || n > 11)
+        return "`until` takes an icon, 1 to 11 or its name, or 0 for none of the ten";
     *number = (uint32_t)n;
     return NULL;
 }

@@ -221,10 +221,15 @@ static void listen_to_keys(desk *d)
 
 /* ---- the script */
 
-/* Whether a later icon is lit, and nothing that was typed may still change that. */
+static bool is_lit(const desk *d, uint32_t icon)
+{
+    return icon == 11 ? d->face.carrier : icon == d->face.icon;
+}
+
+/* Whether a later icon is lit, and nothing that was typed may still change that. Carrier and no icon at all may come at any time. */
 static bool has_passed(const desk *d, uint32_t icon, uint64_t now)
 {
-    return d->face.icon > icon && now - d->typed.at > ms(PASSED_MS);
+    return icon > 0 && icon < d->face.icon && now - d->typed.at > ms(PASSED_MS);
 }
 
 static bool waits(desk *d, uint64_t now)
@@ -233,7 +238,7 @@ static bool waits(desk *d, uint64_t now)
 
     if (k->wait_until > now)
         return true;
-    if (k->wait_icon == 0 || k->wait_icon == d->face.icon)
+    if (!k->waits_for_icon || is_lit(d, k->wait_icon))
         return false;
     if (!has_passed(d, k->wait_icon, now))
         return true;
@@ -257,7 +262,7 @@ static void run_script(desk *d)
     while (k->next < k->count && !stop && !waits(d, now)) {
         const script_step *step = &k->steps[k->next++];
 
-        k->wait_icon = 0;
+        k->waits_for_icon = false;
         switch (step->kind) {
         case STEP_TYPE:
             text(d, step->text);
@@ -276,6 +281,7 @@ static void run_script(desk *d)
             k->wait_until = now + step->ns;
             break;
         case STEP_UNTIL:
+            k->waits_for_icon = true;
             k->wait_icon = step->number;
             break;
         case STEP_BUFFER:

@@ -92,7 +92,8 @@ typedef struct {
     script_step *steps;
     size_t count, next;
     uint64_t wait_until; /* of the clock, ns */
-    uint32_t wait_icon;  /* 0 for none */
+    bool waits_for_icon;
+    uint32_t wait_icon;
 } script;
 
 /* Reads and checks all of a file. Where something in it is wrong it has said so. */
