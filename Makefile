@@ -53,6 +53,6 @@ edits: rt
 c: rt
 	tests/c/run
 
-# The show on servers of its own, with JACK's dummy driver.
+# The show on servers of its own, with JACK's dummy driver. On a machine that has nothing else to do, QUIET=1 judges how late the lights are too.
 stage: rt
-	tests/show/run
+	tests/show/run $(if $(QUIET),--lateness)

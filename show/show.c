@@ -19,7 +19,7 @@
 #include <time.h>
 #include <unistd.h>
 
-enum { PENDING = 1024, LIGHTS_MS = 1, CARRIER_KEY = '\t' };
+enum { PENDING = 1024, LIGHTS_MS = 1, CARRIER_KEY = '\t', CARRIER_ICON = 11, NOTHING = -1 };
 
 typedef struct {
     FILE *log, *take, *keys;
@@ -29,7 +29,7 @@ typedef struct {
     size_t first, count;
     /* the script of keys */
     uint64_t wait_until;  /* of the clock, ns */
-    int wait_icon;        /* 0 for none */
+    int wait_icon;        /* 0: until none is lit; NOTHING to wait for */
     int status;
 } desk;
 
@@ -106,13 +106,22 @@ static void text(show *s, panel *p, const char *bytes)
         key(s, p, (uint8_t)*bytes++);
 }
 
+static bool waits(const desk *d, const panel *p)
+{
+    if (d->wait_until > clock_ns())
+        return true;
+    if (d->wait_icon == CARRIER_ICON)
+        return !p->carrier;
+    return d->wait_icon != NOTHING && d->wait_icon != p->icon;
+}
+
 /* A line of the script: `type TEXT` with Return behind it, `keys TEXT`, `carrier`, `wait SECONDS`, `until ICON`, `buffer FRAMES`, `end`. */
 static void scripted(desk *d, show *s, panel *p)
 {
     char line[512];
 
-    while (d->keys && d->wait_until <= clock_ns() && (d->wait_icon == 0 || d->wait_icon == p->icon)) {
-        d->wait_icon = 0;
+    while (d->keys && !waits(d, p)) {
+        d->wait_icon = NOTHING;
         if (!fgets(line, sizeof line, d->keys)) {
             fclose(d->keys);
             d->keys = NULL;
@@ -302,6 +311,7 @@ int main(int argc, char **argv)
     uint64_t drawn = 0;
     struct sigaction act = {0};
 
+    d.wait_icon = NOTHING;
     if (!words(&d, argc, argv))
         return 1;
     panel_guard();
