@@ -1,4 +1,4 @@
-.PHONY: rt call show cues test gate oracle listen bench edits c stage
+.PHONY: rt call show cues deps test gate oracle listen bench edits c stage
 
 # Rattle's toolchain, by which every program here is proved and built.
 rt:
@@ -21,6 +21,10 @@ cues: rt
 	@mkdir -p target/bin && { tools/build gibbonplate >target/cues.log 2>&1 || { cat target/cues.log; exit 1; }; }
 	@$(CC) -std=c99 -O2 -Wall -Wextra -Iinclude examples/cues.c target/staticlib/libgibbonplate.a -o target/bin/cues
 	@target/bin/cues '$(DIGITS)' '$(RATE)'
+
+# What the gate and the show need beyond the toolchain, from Debian; it wants to be root. tools/deps has the list.
+deps:
+	tools/deps --install
 
 # The gate. Where it fails, make's own last words are the gate's, which say what failed and how to run it alone.
 test: gate
