@@ -50,6 +50,11 @@ static void tell_latency(jack_latency_callback_mode_t mode, void *with)
         jack_port_set_latency_range(e->port, mode, &range);
 }
 
+static void silent(const char *text)
+{
+    (void)text;
+}
+
 static int failed(const char *what)
 {
     fprintf(stderr, "ear: %s\n", what);
@@ -64,6 +69,8 @@ int main(int argc, char **argv)
 
     if (argc != 5)
         return failed("it takes SERVER LATENCY SAMPLES CYCLES");
+    jack_set_error_function(silent);
+    jack_set_info_function(silent);
     e.client = jack_client_open("ear", JackNoStartServer | JackServerName, NULL, argv[1]);
     if (!e.client)
         return failed("no server answers");
