@@ -1,4 +1,5 @@
-/* Who may see the panel: its own page, under an address or a name of ours, and on another address than this machine's with a token. */
+/* Who may see the panel: its own page, under an address or a name of ours, and on another address than this machine's
+ * with a token. */
 #define _GNU_SOURCE
 #include "web.h"
 #include <arpa/inet.h>
@@ -107,7 +108,8 @@ static bool other_address(int family, char *text, size_t room)
         socklen_t len = family == AF_INET ? sizeof(struct sockaddr_in) : sizeof(struct sockaddr_in6);
 
         if (one->ifa_addr && one->ifa_addr->sa_family == family && !(one->ifa_flags & IFF_LOOPBACK))
-            found = getnameinfo(one->ifa_addr, len, text, (socklen_t)room, NULL, 0, NI_NUMERICHOST) == 0 && !strchr(text, '%');
+            found = getnameinfo(one->ifa_addr, len, text, (socklen_t)room, NULL, 0, NI_NUMERICHOST) == 0 &&
+                    !strchr(text, '%');
     }
     freeifaddrs(all);
     return found;
@@ -124,5 +126,6 @@ void access_address(const web *w, char *text, size_t room)
     if (w->name)
         snprintf(host, sizeof host, "%s", w->name);
     six = strchr(host, ':') != NULL;
-    snprintf(text, room, "http://%s%.100s%s:%s/%s%.64s", six ? "[" : "", host, six ? "]" : "", w->port, w->token ? "#" : "", w->token ? w->token : "");
+    snprintf(text, room, "http://%s%.100s%s:%s/%s%.64s", six ? "[" : "", host, six ? "]" : "", w->port,
+             w->token ? "#" : "", w->token ? w->token : "");
 }

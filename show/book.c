@@ -1,5 +1,5 @@
-/* What is written down: the log, a CSV file with a row for each change, and the take, a WAV file of what was played. Where a file cannot be
- * written, the show goes on and says so. */
+/* What is written down: the log, a CSV file with a row for each change, and the take, a WAV file of what was played.
+ * Where a file cannot be written, the show goes on and says so. */
 #define _DEFAULT_SOURCE
 #include "show.h"
 #include <errno.h>
@@ -64,7 +64,8 @@ static void put_times(FILE *file, uint64_t frame, uint32_t rate)
     clock_gettime(CLOCK_REALTIME, &now);
     localtime_r(&now.tv_sec, &parts);
     strftime(day, sizeof day, "%Y-%m-%dT%H:%M:%S", &parts);
-    fprintf(file, "%llu,%.6f,%s.%03ld", (unsigned long long)frame, rate ? (double)frame / rate : 0.0, day, now.tv_nsec / 1000000);
+    fprintf(file, "%llu,%.6f,%s.%03ld", (unsigned long long)frame, rate ? (double)frame / rate : 0.0, day,
+            now.tv_nsec / 1000000);
 }
 
 /* Each row is on the disk as it is made, so that a full disk is known at once. */
@@ -90,8 +91,8 @@ void log_row(book *b, const book_row *row)
     if (!b->file || b->failed[0])
         return;
     put_times(b->file, row->event->frame, face->rate);
-    fprintf(b->file, ",%llu,%u,\"%s\",%u,%c,%u,", (unsigned long long)row->lit, face->icon, show_names[face->icon], face->state, face->mode,
-            face->carrier);
+    fprintf(b->file, ",%llu,%u,\"%s\",%u,%c,%u,", (unsigned long long)row->lit, face->icon, show_names[face->icon],
+            face->state, face->mode, face->carrier);
     put_quoted(b->file, key);
     fputc(',', b->file);
     put_quoted(b->file, row->typed);
@@ -110,8 +111,9 @@ void log_end(book *b, const show *s, const char *typed)
     put_times(b->file, s->frame, s->rate);
     fputs(",,,,,,,,", b->file);
     put_quoted(b->file, typed);
-    fprintf(b->file, ",,\"rate %u, callbacks %llu, mean %.1f us, worst %.1f us, late %u, lost %u\"\n", s->rate, (unsigned long long)s->calls,
-            s->calls ? (double)s->total_ns / (double)s->calls / 1e3 : 0.0, (double)s->worst_ns / 1e3, s->late, s->lost);
+    fprintf(b->file, ",,\"rate %u, callbacks %llu, mean %.1f us, worst %.1f us, late %u, lost %u\"\n", s->rate,
+            (unsigned long long)s->calls, s->calls ? (double)s->total_ns / (double)s->calls / 1e3 : 0.0,
+            (double)s->worst_ns / 1e3, s->late, s->lost);
     flush(b);
 }
 

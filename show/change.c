@@ -8,7 +8,8 @@
 
 const char show_keypad[17] = "123A456B789C*0#D";
 
-const char *const show_names[12] = {"", "OffHook", "DialTone", "Dialling", "Ringback", "Ci", "Ansam", "CmJm", "Cj", "Training", "Connected", "carrier"};
+const char *const show_names[12] = {"",      "OffHook", "DialTone", "Dialling", "Ringback",  "Ci",
+                                    "Ansam", "CmJm",    "Cj",       "Training", "Connected", "carrier"};
 
 char show_key_of(const show_face *face)
 {

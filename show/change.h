@@ -1,5 +1,5 @@
-/* What passes between the show and its outlets, the programs that show it elsewhere, over a socket of whole records: changes out, what is typed
- * in. All are of one build; a record of another size is none. */
+/* What passes between the show and its outlets, the programs that show it elsewhere, over a socket of whole records:
+ * changes out, what is typed in. All are of one build; a record of another size is none. */
 #ifndef SHOW_CHANGE_H
 #define SHOW_CHANGE_H
 
@@ -8,11 +8,11 @@
 #include <stdint.h>
 
 enum {
-    SHOW_REPLIES = 8,   /* kept in a face */
-    SHOW_REPLY = 128,   /* bytes of one, with its 0 */
-    SHOW_LINE = 128,    /* of a typed line, with its 0 */
+    SHOW_REPLIES = 8, /* kept in a face */
+    SHOW_REPLY = 128, /* bytes of one, with its 0 */
+    SHOW_LINE = 128,  /* of a typed line, with its 0 */
     SHOW_NOTICE = 160,
-    SHOW_TEXT = 256,    /* typed at once at an outlet */
+    SHOW_TEXT = 256, /* typed at once at an outlet */
     SHOW_NO_KEY = 255,
     SHOW_OUTLET_FD = 3, /* the outlet's end of the socket */
 };
@@ -31,15 +31,15 @@ typedef struct {
     bool carrier;
     bool sounding; /* the server asks for samples */
     uint32_t rate, buffer, m, total, late, lost;
-    char typed[SHOW_LINE]; /* the line as it is typed */
-    uint32_t replies;      /* how many there were */
+    char typed[SHOW_LINE];          /* the line as it is typed */
+    uint32_t replies;               /* how many there were */
     show_reply reply[SHOW_REPLIES]; /* the last ones, newest last */
     char notice[SHOW_NOTICE];       /* what the operator has to know, or empty */
 } show_face;
 
 /* Something that is heard now, and the face with it. A beat is a face without anything new, ten times a second. */
 typedef struct {
-    uint32_t number; /* of the change, from 1; a beat has that of the last one */
+    uint32_t number;   /* of the change, from 1; a beat has that of the last one */
     uint64_t frame;    /* of the show, at which it happened */
     uint64_t heard_us; /* when that frame was heard, of CLOCK_MONOTONIC */
     bool beat;
@@ -47,8 +47,8 @@ typedef struct {
     show_face face;
 } show_change;
 
-/* What an outlet hands in: that it is ready, and where; text for the set, which nothing comes between; the carrier flag; hanging up at once;
- * and that it wants to be told everything. */
+/* What an outlet hands in: that it is ready, and where; text for the set, which nothing comes between; the carrier
+ * flag; hanging up at once; and that it wants to be told everything. */
 enum { TYPED_READY, TYPED_TEXT, TYPED_CARRIER_TURNED, TYPED_CARRIER_DOWN, TYPED_CARRIER_UP, TYPED_HANGUP, TYPED_ASK };
 
 typedef struct {

@@ -5,8 +5,8 @@
  *     connected = /eos/cue/1/12/fire
  *     key 5     = /eos/sub/5 1.0
  *
- * What stands behind a `to` goes there, and what stands before the first wherever --osc leads. An argument is a whole number, a number with a full
- * stop, T, F, a text in quotation marks, or a word.
+ * What stands behind a `to` goes there, and what stands before the first wherever --osc leads. An argument is a whole
+ * number, a number with a full stop, T, F, a text in quotation marks, or a word.
  */
 #define _GNU_SOURCE
 #include "cues.h"

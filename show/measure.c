@@ -1,6 +1,6 @@
 /*
- * What of a sheet is too small for a finger, by librsvg, which knows how large a drawing comes out. It knows elements by their IDs alone: one that has
- * none is given one, in a copy. The page measures the same on its own screen.
+ * What of a sheet is too small for a finger, by librsvg, which knows how large a drawing comes out. It knows elements
+ * by their IDs alone: one that has none is given one, in a copy. The page measures the same on its own screen.
  */
 #define _GNU_SOURCE
 #include "measure.h"

@@ -4,7 +4,8 @@
 
 #include "sheet.h"
 
-/* Prints a line for each, on a tablet of ten inches. Answers how many there are, or -1 where it cannot be measured here. */
+/* Prints a line for each, on a tablet of ten inches. Answers how many there are, or -1 where it cannot be measured
+ * here. */
 int measure_touches(const sheet *s);
 
 #endif

@@ -40,15 +40,24 @@ static const char help[] =
 enum { LOG = 1, TAKE, KEYS, SERVER, TO, PLAN, RATE, CHECK, WEB, OSC, OSC_IN, HELP, VERSION };
 
 static const struct option known[] = {
-    {"log", required_argument, NULL, LOG},       {"take", required_argument, NULL, TAKE},
-    {"keys", required_argument, NULL, KEYS},     {"server", required_argument, NULL, SERVER},
-    {"to", required_argument, NULL, TO},         {"plan", required_argument, NULL, PLAN},
-    {"rate", required_argument, NULL, RATE},     {"check-sheet", required_argument, NULL, CHECK},
-    {"http", required_argument, NULL, WEB},      {"listen", required_argument, NULL, WEB},
-    {"name", required_argument, NULL, WEB},      {"token", required_argument, NULL, WEB},
-    {"sheet", required_argument, NULL, WEB},     {"osc", required_argument, NULL, OSC},
-    {"cues", required_argument, NULL, OSC},      {"osc-in", required_argument, NULL, OSC_IN},
-    {"help", no_argument, NULL, HELP},           {"version", no_argument, NULL, VERSION},
+    {"log", required_argument, NULL, LOG},
+    {"take", required_argument, NULL, TAKE},
+    {"keys", required_argument, NULL, KEYS},
+    {"server", required_argument, NULL, SERVER},
+    {"to", required_argument, NULL, TO},
+    {"plan", required_argument, NULL, PLAN},
+    {"rate", required_argument, NULL, RATE},
+    {"check-sheet", required_argument, NULL, CHECK},
+    {"http", required_argument, NULL, WEB},
+    {"listen", required_argument, NULL, WEB},
+    {"name", required_argument, NULL, WEB},
+    {"token", required_argument, NULL, WEB},
+    {"sheet", required_argument, NULL, WEB},
+    {"osc", required_argument, NULL, OSC},
+    {"cues", required_argument, NULL, OSC},
+    {"osc-in", required_argument, NULL, OSC_IN},
+    {"help", no_argument, NULL, HELP},
+    {"version", no_argument, NULL, VERSION},
     {NULL, 0, NULL, 0},
 };
 

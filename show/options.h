@@ -18,7 +18,8 @@ typedef struct {
     option_words web, osc, osc_in;
 } options;
 
-/* Reads them. Ends the program where it is asked for help or its version; false where something is wrong, and it has said so. */
+/* Reads them. Ends the program where it is asked for help or its version; false where something is wrong, and it has
+ * said so. */
 bool options_read(options *o, int argc, char **argv);
 
 /* Prints the cues of a call to a number. Where it declines it has said why. */

@@ -3,8 +3,8 @@
  *
  *     show-osc [--osc HOST:PORT ..] [--cues FILE]
  *
- * To each HOST:PORT go the addresses under /gibbonplate, and to the places of a file of cues what that file says. All packets are UDP, one message
- * each. liblo encodes them.
+ * To each HOST:PORT go the addresses under /gibbonplate, and to the places of a file of cues what that file says. All
+ * packets are UDP, one message each. liblo encodes them.
  */
 #define _GNU_SOURCE
 #include "cues.h"
@@ -34,7 +34,8 @@ typedef struct {
 
 static void post(const osc *o, const address *a, const void *packet, size_t len)
 {
-    sendto(a->to.ss_family == AF_INET6 ? o->out6 : o->out4, packet, len, MSG_DONTWAIT | MSG_NOSIGNAL, (const struct sockaddr *)&a->to, a->len);
+    sendto(a->to.ss_family == AF_INET6 ? o->out6 : o->out4, packet, len, MSG_DONTWAIT | MSG_NOSIGNAL,
+           (const struct sockaddr *)&a->to, a->len);
 }
 
 static void post_all(const osc *o, const void *packet, size_t len)
@@ -156,7 +157,8 @@ static void tell_changes(const osc *o, const show_face *f, const show_face *was,
         tell_number(o, "/gibbonplate/sounding", f->sounding);
 }
 
-/* Cues first: someone waits for them. One that is started anew in the middle of a show fires none for what is lit already. */
+/* Cues first: someone waits for them. One that is started anew in the middle of a show fires none for what is lit
+ * already. */
 static void take_change(osc *o, const show_change *c)
 {
     const show_face *f = &c->face;
@@ -190,7 +192,8 @@ static bool add_place(osc *o, const char *text)
 
 static bool read_options(osc *o, int argc, char **argv)
 {
-    static const struct option known[] = {{"osc", required_argument, NULL, 'o'}, {"cues", required_argument, NULL, 'c'}, {NULL, 0, NULL, 0}};
+    static const struct option known[] = {
+        {"osc", required_argument, NULL, 'o'}, {"cues", required_argument, NULL, 'c'}, {NULL, 0, NULL, 0}};
     const char *cues = NULL;
     int which;
 

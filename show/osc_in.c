@@ -111,7 +111,8 @@ static int read_options(int argc, char **argv)
 
 int main(int argc, char **argv)
 {
-    struct pollfd fds[2] = {{.fd = SHOW_OUTLET_FD, .events = POLLIN}, {.fd = read_options(argc, argv), .events = POLLIN}};
+    struct pollfd fds[2] = {{.fd = SHOW_OUTLET_FD, .events = POLLIN},
+                            {.fd = read_options(argc, argv), .events = POLLIN}};
     int got = 0;
 
     if (fds[1].fd < 0)

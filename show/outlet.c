@@ -1,5 +1,6 @@
-/* A program of its own that is handed every change over a socket of whole records. It is no part of this process: where it hangs, what it
- * is told is dropped; where it dies, the show plays on and starts it anew. It ends when its end of the socket does. */
+/* A program of its own that is handed every change over a socket of whole records. It is no part of this process: where
+ * it hangs, what it is told is dropped; where it dies, the show plays on and starts it anew. It ends when its end of
+ * the socket does. */
 #define _GNU_SOURCE
 #include "show.h"
 #include <errno.h>
@@ -14,7 +15,8 @@
 #include <sys/wait.h>
 #include <unistd.h>
 
-/* How many records are taken from an outlet. What comes faster waits in its socket, and then finds no place there: none of it reaches the callback. */
+/* How many records are taken from an outlet. What comes faster waits in its socket, and then finds no place there: none
+ * of it reaches the callback. */
 enum { A_SECOND = 100, AT_ONCE = 20 };
 
 static const uint64_t MS = 1000000, FIRST_WAIT = 250 * MS, LONGEST_WAIT = 8000 * MS, STEADY = 10000 * MS;
@@ -52,7 +54,8 @@ void outlet_become(const outlet *o, char *const *words)
     }
 }
 
-/* This thread may run in real time and has the server's files open; what it starts has neither, nor the terminal's keys. */
+/* This thread may run in real time and has the server's files open; what it starts has neither, nor the terminal's
+ * keys. */
 static int spawn(outlet *o, const char *path, const char **argv, int end, int priority)
 {
     posix_spawn_file_actions_t actions;
@@ -119,7 +122,8 @@ bool outlet_open(outlet *o)
     if (!start(o))
         return false;
     in = (struct pollfd){o->fd, POLLIN, 0};
-    if (poll(&in, 1, READY_MS) == 1 && recv(o->fd, &first, sizeof first, 0) == (ssize_t)sizeof first && first.kind == TYPED_READY) {
+    if (poll(&in, 1, READY_MS) == 1 && recv(o->fd, &first, sizeof first, 0) == (ssize_t)sizeof first &&
+        first.kind == TYPED_READY) {
         snprintf(o->said, sizeof o->said, "%.*s", (int)first.len, (const char *)first.bytes);
         return true;
     }
@@ -129,7 +133,8 @@ bool outlet_open(outlet *o)
 
 void outlet_tell(outlet *o, const show_change *change)
 {
-    if (o->fd >= 0 && send(o->fd, change, sizeof *change, MSG_DONTWAIT | MSG_NOSIGNAL) < 0 && (errno == EAGAIN || errno == EWOULDBLOCK))
+    if (o->fd >= 0 && send(o->fd, change, sizeof *change, MSG_DONTWAIT | MSG_NOSIGNAL) < 0 &&
+        (errno == EAGAIN || errno == EWOULDBLOCK))
         o->missed++;
 }
 

@@ -1,4 +1,5 @@
-/* The page, its script and its style, which are part of this program, and the sheet. Nothing is fetched from elsewhere, by this program or the page. */
+/* The page, its script and its style, which are part of this program, and the sheet. Nothing is fetched from elsewhere,
+ * by this program or the page. */
 #define _GNU_SOURCE
 #include "web.h"
 #include <stdio.h>
@@ -18,7 +19,10 @@ EMBEDDED(sheet_js);
 EMBEDDED(socket_js);
 EMBEDDED(sheet_svg);
 
-#define FILE_OF(url, type, name) {url, type "; charset=utf-8", _binary_##name##_start, _binary_##name##_end}
+#define FILE_OF(url, type, name)                                                                                       \
+    {                                                                                                                  \
+        url, type "; charset=utf-8", _binary_##name##_start, _binary_##name##_end                                      \
+    }
 static const struct {
     const char *url, *type;
     const uint8_t *start, *end;
@@ -65,7 +69,8 @@ void sheet_look(web *w)
     if (!w->sheet_path) {
         sheet own;
 
-        if (w->sheet_version == 0 && sheet_take(&own, (const char *)_binary_sheet_svg_start, (size_t)(_binary_sheet_svg_end - _binary_sheet_svg_start)))
+        if (w->sheet_version == 0 && sheet_take(&own, (const char *)_binary_sheet_svg_start,
+                                                (size_t)(_binary_sheet_svg_end - _binary_sheet_svg_start)))
             replace_sheet(w, &own);
         return;
     }
@@ -86,8 +91,8 @@ static uint8_t *sheet_text(const web *w, size_t *len)
 
     if (!to)
         return NULL;
-    fprintf(to, "{\"version\":%u,\"own\":%s,\"has\":\"%s\",\"words\":%s,\"faults\":\"", w->sheet_version, w->sheet_path ? "true" : "false",
-            s->has ? s->has : "", s->words ? s->words : "[]");
+    fprintf(to, "{\"version\":%u,\"own\":%s,\"has\":\"%s\",\"words\":%s,\"faults\":\"", w->sheet_version,
+            w->sheet_path ? "true" : "false", s->has ? s->has : "", s->words ? s->words : "[]");
     sheet_put_json(to, s->faults ? s->faults : "", s->faults ? strlen(s->faults) : 0);
     fputs("\",\"svg\":\"", to);
     sheet_put_json(to, s->svg ? s->svg : "", s->len);
@@ -102,7 +107,8 @@ static int add_header(struct lws *wsi, const char *name, const char *value, uint
     return lws_add_http_header_by_name(wsi, (const uint8_t *)name, (const uint8_t *)value, (int)strlen(value), at, end);
 }
 
-/* A page that is kept by nobody, frames nobody, and talks to this program alone. A sheet has styles in its elements, and its pictures in itself. */
+/* A page that is kept by nobody, frames nobody, and talks to this program alone. A sheet has styles in its elements,
+ * and its pictures in itself. */
 static int send_headers(struct lws *wsi, const page *p, const char *type, const char *host)
 {
     uint8_t buf[LWS_PRE + 2048], *start = buf + LWS_PRE, *at = start, *end = buf + sizeof buf - 1;
@@ -112,9 +118,12 @@ static int send_headers(struct lws *wsi, const page *p, const char *type, const 
              "default-src 'none'; script-src 'self'; style-src 'self' 'unsafe-inline'; img-src data:; font-src data:; "
              "connect-src http://%s ws://%s; frame-ancestors 'none'; base-uri 'none'; form-action 'none'",
              host, host);
-    return lws_add_http_common_headers(wsi, 200, type, p->len, &at, end) || add_header(wsi, "content-security-policy:", csp, &at, end) ||
-           add_header(wsi, "x-content-type-options:", "nosniff", &at, end) || add_header(wsi, "referrer-policy:", "no-referrer", &at, end) ||
-           add_header(wsi, "cross-origin-resource-policy:", "same-origin", &at, end) || add_header(wsi, "cache-control:", "no-store", &at, end) ||
+    return lws_add_http_common_headers(wsi, 200, type, p->len, &at, end) ||
+           add_header(wsi, "content-security-policy:", csp, &at, end) ||
+           add_header(wsi, "x-content-type-options:", "nosniff", &at, end) ||
+           add_header(wsi, "referrer-policy:", "no-referrer", &at, end) ||
+           add_header(wsi, "cross-origin-resource-policy:", "same-origin", &at, end) ||
+           add_header(wsi, "cache-control:", "no-store", &at, end) ||
            lws_finalize_write_http_header(wsi, start, &at, end);
 }
 

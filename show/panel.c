@@ -1,5 +1,5 @@
-/* The terminal as the panel: eleven icons, the keypad, the lines typed and the replies. A parent process holds the terminal's settings and puts
- * them back when the show ends, whatever ends it. */
+/* The terminal as the panel: eleven icons, the keypad, the lines typed and the replies. A parent process holds the
+ * terminal's settings and puts them back when the show ends, whatever ends it. */
 #define _DEFAULT_SOURCE
 #include "show.h"
 #include <errno.h>
@@ -124,7 +124,8 @@ static void put_keys(page *p, const show_face *face, int row)
     int column;
 
     for (column = 0; column < 4; column++)
-        put(p, "%s %c \033[0m", shade(face->sounding && face->key[0] == row && face->key[1] == column), show_keypad[row * 4 + column]);
+        put(p, "%s %c \033[0m", shade(face->sounding && face->key[0] == row && face->key[1] == column),
+            show_keypad[row * 4 + column]);
 }
 
 /* As many icons beside one another as there is room for, and the keypad beside them, where there is room for it too. */
@@ -139,7 +140,8 @@ static void put_icons(page *p, const show_face *face)
         int icon = i + 1;
 
         if (icon <= 11)
-            put(p, "%s %2d %-10s\033[0m  ", shade(face->sounding && (icon == 11 ? face->carrier : icon == face->icon)), icon, show_names[icon]);
+            put(p, "%s %2d %-10s\033[0m  ", shade(face->sounding && (icon == 11 ? face->carrier : icon == face->icon)),
+                icon, show_names[icon]);
         else
             put(p, "%*s", ICON, "");
         if ((i + 1) % across == 0) {
@@ -175,7 +177,8 @@ static void put_replies(page *p, const show_face *face)
     }
 }
 
-/* The icons come first and the line that is typed last; what a small terminal has no room for is left out between them. */
+/* The icons come first and the line that is typed last; what a small terminal has no room for is left out between them.
+ */
 void panel_draw(const show_face *face)
 {
     page p = {.left = 24, .columns = 80};

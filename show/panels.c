@@ -1,6 +1,7 @@
 /*
- * The browsers that have joined. Each gets the whole face in each message, so that one left out leaves no light wrong. A browser says `seen N` to
- * each; while it owes more than a few it gets nothing, and then the newest face; one that owes for too long is dropped. Nothing is queued for anyone.
+ * The browsers that have joined. Each gets the whole face in each message, so that one left out leaves no light wrong.
+ * A browser says `seen N` to each; while it owes more than a few it gets nothing, and then the newest face; one that
+ * owes for too long is dropped. Nothing is queued for anyone.
  */
 #define _GNU_SOURCE
 #include "web.h"
@@ -36,13 +37,15 @@ static void put_face(FILE *to, const web *w, const panel *p)
     char key[2] = {show_key_of(f), 0};
     int i;
 
-    fprintf(to, "{\"v\":1,\"message\":%u,\"change\":%u,\"frame\":%llu,", p->sent + 1, c->number, (unsigned long long)c->frame);
-    fprintf(to, "\"icon\":%u,\"state\":%u,\"mode\":\"%c\",\"carrier\":%d,\"sounding\":%d,\"key\":\"%s\",", f->icon, f->state,
-            f->mode == 'D' ? 'D' : 'C', f->carrier, f->sounding, key);
-    fprintf(to, "\"rate\":%u,\"buffer\":%u,\"sample\":%u,\"total\":%u,\"late\":%u,\"lost\":%u,\"panels\":%u,", f->rate, f->buffer,
-            f->total && f->m > f->total ? f->total : f->m, f->total, f->late, f->lost, w->count);
+    fprintf(to, "{\"v\":1,\"message\":%u,\"change\":%u,\"frame\":%llu,", p->sent + 1, c->number,
+            (unsigned long long)c->frame);
+    fprintf(to, "\"icon\":%u,\"state\":%u,\"mode\":\"%c\",\"carrier\":%d,\"sounding\":%d,\"key\":\"%s\",", f->icon,
+            f->state, f->mode == 'D' ? 'D' : 'C', f->carrier, f->sounding, key);
+    fprintf(to, "\"rate\":%u,\"buffer\":%u,\"sample\":%u,\"total\":%u,\"late\":%u,\"lost\":%u,\"panels\":%u,", f->rate,
+            f->buffer, f->total && f->m > f->total ? f->total : f->m, f->total, f->late, f->lost, w->count);
     /* when the frame was heard, on the clock of the day, for those who measure */
-    fprintf(to, "\"heard\":%lld,\"sheet\":%u,\"replies\":%u", (long long)(day_us() - (int64_t)(now_us() - c->heard_us)), w->sheet_version, f->replies);
+    fprintf(to, "\"heard\":%lld,\"sheet\":%u,\"replies\":%u", (long long)(day_us() - (int64_t)(now_us() - c->heard_us)),
+            w->sheet_version, f->replies);
     put_text(to, ",\"sheetFault\":", w->sheet_fault);
     put_text(to, ",\"notice\":", f->notice);
     put_text(to, ",\"typed\":", f->typed);
@@ -140,7 +143,10 @@ static void seen(panel *p, const char *number)
 static const struct {
     const char *word;
     uint16_t kind;
-} plain[] = {{"carrier", TYPED_CARRIER_TURNED}, {"carrier up", TYPED_CARRIER_UP}, {"carrier down", TYPED_CARRIER_DOWN}, {"hangup", TYPED_HANGUP}};
+} plain[] = {{"carrier", TYPED_CARRIER_TURNED},
+             {"carrier up", TYPED_CARRIER_UP},
+             {"carrier down", TYPED_CARRIER_DOWN},
+             {"hangup", TYPED_HANGUP}};
 
 static const char *take_word(const char *text, size_t len)
 {

@@ -1,6 +1,7 @@
 /*
- * The cues of a call before the call, as CSV: the events of docs/CUES.md with the sample and the time at which each is heard. The stages are the
- * plan's; a key is lit from the sample that a set cues for it, to the last one that a set plays with it.
+ * The cues of a call before the call, as CSV: the events of docs/CUES.md with the sample and the time at which each is
+ * heard. The stages are the plan's; a key is lit from the sample that a set cues for it, to the last one that a set
+ * plays with it.
  */
 #include "change.h"
 #include "gibbonplate.h"
@@ -18,8 +19,9 @@ static void print_cue(plan *p, const char *event, uint64_t sample)
 {
     uint64_t ms = ((sample - 1) * 2000 / p->rate + 1) / 2;
 
-    printf("%u,%s,%.6f,%02u:%02u:%02u.%03u,%llu\n", ++p->cues, event, (double)(sample - 1) / p->rate, (unsigned)(ms / 3600000),
-           (unsigned)(ms / 60000 % 60), (unsigned)(ms / 1000 % 60), (unsigned)(ms % 1000), (unsigned long long)sample);
+    printf("%u,%s,%.6f,%02u:%02u:%02u.%03u,%llu\n", ++p->cues, event, (double)(sample - 1) / p->rate,
+           (unsigned)(ms / 3600000), (unsigned)(ms / 60000 % 60), (unsigned)(ms / 1000 % 60), (unsigned)(ms % 1000),
+           (unsigned long long)sample);
 }
 
 /* Plays on to where a sample is the next. */

@@ -39,7 +39,8 @@ static void tell(show *s, const gibbonplate_set *set, jack_nframes_t start, size
         jack_ringbuffer_write(s->events, (const char *)&event, sizeof event);
 }
 
-/* What data mode sends waits to be heard once the line is up. A full queue is told once, until a byte has a place again. */
+/* What data mode sends waits to be heard once the line is up. A full queue is told once, until a byte has a place
+ * again. */
 static void queue(show *s, const uint8_t *outbox, show_event *event)
 {
     size_t i;
@@ -66,7 +67,8 @@ static void feed(show *s, jack_nframes_t start, uint8_t byte, bool hung_up)
         tell(s, &s->set, start, 0, event);
 }
 
-/* More than a line holds, so that its Return gives ERROR and whatever was typed of it does nothing. That ERROR is not told. */
+/* More than a line holds, so that its Return gives ERROR and whatever was typed of it does nothing. That ERROR is not
+ * told. */
 static void drop_half(show *s)
 {
     uint8_t outbox[GIBBONPLATE_MIN_OUTBOX];
@@ -91,7 +93,8 @@ static void fresh(show *s, jack_nframes_t start, bool hung_up)
     tell(s, &s->set, start, 0, event);
 }
 
-/* Hangs up at once: by ATH where the set takes commands. In data mode the escape takes two guard times: the set is made anew. */
+/* Hangs up at once: by ATH where the set takes commands. In data mode the escape takes two guard times: the set is made
+ * anew. */
 static void hang_up(show *s, jack_nframes_t start)
 {
     const char *line;
@@ -146,13 +149,15 @@ static void passed(show *s, jack_nframes_t start, jack_nframes_t frames)
 }
 
 /* Whether a set after a fill shows what this one shows, of which this key is lit. */
-static bool same_lights(const gibbonplate_set *set, const uint8_t key[2], const gibbonplate_set *after, const uint8_t lit[2])
+static bool same_lights(const gibbonplate_set *set, const uint8_t key[2], const gibbonplate_set *after,
+                        const uint8_t lit[2])
 {
     return show_icon(set) == show_icon(after) && key[0] == lit[0] && key[1] == lit[1];
 }
 
-/* Tells each icon and each key that came in a fill with the frame of its first sample, which the set has not said: it shows the last sample's. So
- * the fill is made again from the set before it, in ever shorter parts. A fill is so short that nothing is shown twice in it. */
+/* Tells each icon and each key that came in a fill with the frame of its first sample, which the set has not said: it
+ * shows the last sample's. So the fill is made again from the set before it, in ever shorter parts. A fill is so short
+ * that nothing is shown twice in it. */
 static void lights(show *s, gibbonplate_set before, jack_nframes_t start, size_t at, size_t len)
 {
     static float scratch[GIBBONPLATE_MAX_FILL];
@@ -291,7 +296,8 @@ const char *show_join(show *s, const char *server)
 {
     jack_status_t status = 0;
 
-    s->client = jack_client_open("gibbonplate", server ? JackNoStartServer | JackServerName : JackNoStartServer, &status, server);
+    s->client = jack_client_open("gibbonplate", server ? JackNoStartServer | JackServerName : JackNoStartServer,
+                                 &status, server);
     if (!s->client)
         return "no JACK server answers; start one, as `jackd -d alsa`, or run show by PipeWire's pw-jack";
     s->beside_another = (status & JackNameNotUnique) != 0;
@@ -308,7 +314,8 @@ const char *show_join(show *s, const char *server)
     } else if (gibbonplate_new(&s->set, s->rate) == GIBBONPLATE_ACCEPTED) {
         s->made = s->rate;
     } else {
-        snprintf(s->why, sizeof s->why, "the server runs at %u samples a second; the set takes 8000 to 192000", s->rate);
+        snprintf(s->why, sizeof s->why, "the server runs at %u samples a second; the set takes 8000 to 192000",
+                 s->rate);
         show_leave(s);
         return s->why;
     }

@@ -1,6 +1,7 @@
 /*
- * A sheet is an SVG file. An element says what it is by its id, its label in Inkscape or its attribute data-show; a label and an attribute may
- * hold several words, with a semicolon between, and what stands behind a full stop in an id is left out.
+ * A sheet is an SVG file. An element says what it is by its id, its label in Inkscape or its attribute data-show; a
+ * label and an attribute may hold several words, with a semicolon between, and what stands behind a full stop in an id
+ * is left out.
  */
 #define _GNU_SOURCE
 #include "sheet.h"
@@ -172,7 +173,8 @@ static void tell_touch(reading *r, const char *does, const char *text)
     if (r->touch)
         fputs("; ", r->touched);
     else
-        fprintf(r->touched, "%s%ld %s ", r->touches ? "\n" : "", (long)XML_GetCurrentByteIndex(r->parser), r->id ? r->id : "-");
+        fprintf(r->touched, "%s%ld %s ", r->touches ? "\n" : "", (long)XML_GetCurrentByteIndex(r->parser),
+                r->id ? r->id : "-");
     fprintf(r->touched, *text ? "%s %s" : "%s", does, text);
     r->touches += !r->touch;
     r->touch = true;
@@ -199,7 +201,8 @@ static bool touch_word(reading *r, const char *word)
         fprintf(r->faults, "\"%s\": only ASCII can be typed\n", word);
     } else if (strcmp(does, "carrier") == 0 && *text && strcasecmp(text, "up") != 0 && strcasecmp(text, "down") != 0) {
         fprintf(r->faults, "\"%s\": carrier, carrier-up or carrier-down\n", word);
-    } else if (strcmp(does, "wait") == 0 && (strtod(text, &end) < 0 || strtod(text, NULL) > 60 || end == text || *end)) {
+    } else if (strcmp(does, "wait") == 0 &&
+               (strtod(text, &end) < 0 || strtod(text, NULL) > 60 || end == text || *end)) {
         fprintf(r->faults, "\"%s\": seconds, up to 60\n", word);
     } else {
         begin_word(r);
@@ -230,7 +233,8 @@ static bool text_word(reading *r, const char *word)
     return true;
 }
 
-/* Whether two short words differ in one letter that is other, missing, added or in its neighbour's place, small letters or not. */
+/* Whether two short words differ in one letter that is other, missing, added or in its neighbour's place, small letters
+ * or not. */
 static bool near(const char *a, size_t len, const char *b)
 {
     size_t other = strlen(b), same = 0, behind = 0;
@@ -250,7 +254,9 @@ static bool near(const char *a, size_t len, const char *b)
 /* A word that is none, but nearly one: icon_4, icon4, icno-4. */
 static void misspelt_word(reading *r, const char *word)
 {
-    const char *rest = strncasecmp(word, "on-", 3) == 0 ? word + 3 : strncasecmp(word, "off-", 4) == 0 ? word + 4 : word;
+    const char *rest = strncasecmp(word, "on-", 3) == 0    ? word + 3
+                       : strncasecmp(word, "off-", 4) == 0 ? word + 4
+                                                           : word;
     size_t stem = strspn(rest, "abcdefghijklmnopqrstuvwxyzABCDEFGHIJKLMNOPQRSTUVWXYZ"), i;
     const char *value = rest + stem + strspn(rest + stem, "-_ ");
 
@@ -323,7 +329,8 @@ static void look_at_links(reading *r, const char *name, const char **pairs)
     const char *href = attribute(pairs, "href");
 
     href = href ? href : attribute(pairs, XLINK "href");
-    if (href && !is_local(href) && (strcmp(name, SVG "image") == 0 || strcmp(name, SVG "use") == 0 || strcmp(name, SVG "feImage") == 0))
+    if (href && !is_local(href) &&
+        (strcmp(name, SVG "image") == 0 || strcmp(name, SVG "use") == 0 || strcmp(name, SVG "feImage") == 0))
         fprintf(r->faults, "the picture \"%.80s\" is linked and not embedded: it is not shown\n", href);
     if (strcmp(name, SVG "script") == 0)
         fputs("a script in a sheet does not run\n", r->faults);
@@ -337,7 +344,8 @@ static void look_at_links(reading *r, const char *name, const char **pairs)
 static void XMLCALL begin_element(void *with, const char *name, const char **pairs)
 {
     reading *r = with;
-    const char *id = attribute(pairs, "id"), *shows = attribute(pairs, "data-show"), *label = attribute(pairs, INKSCAPE "label");
+    const char *id = attribute(pairs, "id"), *shows = attribute(pairs, "data-show"),
+               *label = attribute(pairs, INKSCAPE "label");
 
     if (r->element == 0 && strcmp(name, SVG "svg") != 0) {
         r->not_svg = true;
@@ -374,7 +382,10 @@ static void list_lacking(const reading *r, FILE *to)
         }
     for (i = 0; i < 16 && keys > 0; i++) /* a sheet may have no keypad, but no part of one */
         if (!r->keys[i]) {
-            fprintf(to, "%skey-%.4s", before, show_keypad[i] == '*' ? "star" : show_keypad[i] == '#' ? "hash" : (char[]){show_keypad[i], 0});
+            fprintf(to, "%skey-%.4s", before,
+                    show_keypad[i] == '*'   ? "star"
+                    : show_keypad[i] == '#' ? "hash"
+                                            : (char[]){show_keypad[i], 0});
             before = ", ";
         }
     if (before[0] == ',')

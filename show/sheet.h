@@ -11,11 +11,11 @@ enum { SHEET_LONGEST = 8 << 20 };
 typedef struct {
     char *svg; /* the file */
     size_t len;
-    char *words;  /* for the page: a JSON array, in which an element has its number in the document, from 0 */
-    char *has;    /* "11 of 11 icons, 16 of 16 keys, 7 to touch" */
-    char *faults; /* what is wrong, a line each */
+    char *words;   /* for the page: a JSON array, in which an element has its number in the document, from 0 */
+    char *has;     /* "11 of 11 icons, 16 of 16 keys, 7 to touch" */
+    char *faults;  /* what is wrong, a line each */
     char *touches; /* what is touched, a line each: where its tag begins in the file, its ID or -, and what it does */
-    char *wrong;  /* why it cannot be shown at all, or null */
+    char *wrong;   /* why it cannot be shown at all, or null */
 } sheet;
 
 /* Reads a file; false where it cannot be shown, and `wrong` says why. */

@@ -41,14 +41,14 @@ typedef struct {
     size_t first, count;
     typing typed;
     show_face face;
-    show_change change;    /* the last one told */
-    bool all;              /* an outlet wants to be told everything */
+    show_change change; /* the last one told */
+    bool all;           /* an outlet wants to be told everything */
     outlet outlets[OUTLETS];
     uint64_t frame_seen, frame_at; /* where the sound was when it last moved, and the clock then */
     uint64_t join_at;
-    uint32_t buffer;       /* the server's own length, where a script has set another */
+    uint32_t buffer; /* the server's own length, where a script has set another */
     bool input_over;
-    bool away;             /* the server has ended, and no other has come */
+    bool away; /* the server has ended, and no other has come */
     int status;
 } desk;
 
@@ -112,7 +112,8 @@ __attribute__((format(printf, 2, 3))) static void tell_operator(desk *d, const c
 
 /* ---- typing */
 
-/* The bytes from one number up to another, the last ones where they are too many; the printable ones alone, or all but 0. */
+/* The bytes from one number up to another, the last ones where they are too many; the printable ones alone, or all but
+ * 0. */
 static void typed_text(const typing *t, uint32_t from, uint32_t to, bool printable, char *text, size_t room)
 {
     size_t at = 0;
@@ -201,7 +202,8 @@ static void from_outlet(desk *d, const show_typed *t)
     }
 }
 
-/* Waits a little for keys. One who has been heard enough for now does not wake this thread: in real time it would spin, and be held up for it. */
+/* Waits a little for keys. One who has been heard enough for now does not wake this thread: in real time it would spin,
+ * and be held up for it. */
 static void listen_to_keys(desk *d)
 {
     struct pollfd in[OUTLETS + 1];
@@ -226,7 +228,8 @@ static bool is_lit(const desk *d, uint32_t icon)
     return icon == 11 ? d->face.carrier : icon == d->face.icon;
 }
 
-/* Whether a later icon is lit, and nothing that was typed may still change that. Carrier and no icon at all may come at any time. */
+/* Whether a later icon is lit, and nothing that was typed may still change that. Carrier and no icon at all may come at
+ * any time. */
 static bool has_passed(const desk *d, uint32_t icon, uint64_t now)
 {
     return icon > 0 && icon < d->face.icon && now - d->typed.at > ms(PASSED_MS);
@@ -338,7 +341,9 @@ static void note_text(const show_event *e, char *text, size_t room)
     if (e->hung_up && e->fresh)
         snprintf(text, room, "hung up: a fresh set");
     else if (e->fresh)
-        snprintf(text, room, e->refusal ? "the rate is now %u, not 8000 to 192000: silence" : "the rate is now %u: a fresh set", e->rate);
+        snprintf(text, room,
+                 e->refusal ? "the rate is now %u, not 8000 to 192000: silence" : "the rate is now %u: a fresh set",
+                 e->rate);
     else if (e->refusal == GIBBONPLATE_QUEUE_FULL)
         snprintf(text, room, "256 bytes wait: what is typed now is not sent");
     else if (e->refusal)
@@ -382,7 +387,8 @@ static void heard(desk *d, const show_event *e, int32_t since)
     }
     d->change.number++;
     d->change.frame = e->frame;
-    d->change.heard_us = clock_ns() / 1000 - (uint64_t)((int64_t)since * 1000000 / d->s.rate); /* the server has a clock of its own */
+    d->change.heard_us =
+        clock_ns() / 1000 - (uint64_t)((int64_t)since * 1000000 / d->s.rate); /* the server has a clock of its own */
     d->change.beat = false;
     tell_outlets(d);
     typed_text(t, t->logged, e->typed, false, all, sizeof all);

@@ -1,6 +1,6 @@
-/* The show: one set behind the sound and the icons. play.c is the audio callback's side. The other side is the desk: show.c joins what is heard,
- * typed and written; script.c types from a file, book.c writes the log and the take, panel.c is the terminal's, and outlet.c that of the
- * programs which show it elsewhere (web.c, osc.c, osc_in.c). */
+/* The show: one set behind the sound and the icons. play.c is the audio callback's side. The other side is the desk:
+ * show.c joins what is heard, typed and written; script.c types from a file, book.c writes the log and the take,
+ * panel.c is the terminal's, and outlet.c that of the programs which show it elsewhere (web.c, osc.c, osc_in.c). */
 #ifndef SHOW_H
 #define SHOW_H
 
@@ -22,16 +22,16 @@ typedef struct {
 
 /* Something that happened at a frame, with the set as it was then. */
 typedef struct {
-    uint64_t frame;        /* from the start of the show, which is the take's first sample */
-    jack_nframes_t time;   /* the same in the server's count */
-    uint32_t typed;        /* how many bytes had been typed */
-    uint8_t refusal;       /* of a typed byte, of what it would queue, or of a new rate */
+    uint64_t frame;      /* from the start of the show, which is the take's first sample */
+    jack_nframes_t time; /* the same in the server's count */
+    uint32_t typed;      /* how many bytes had been typed */
+    uint8_t refusal;     /* of a typed byte, of what it would queue, or of a new rate */
     bool carrier;
-    bool line;             /* a typed byte caused it, the last one */
-    bool hung_up;          /* it hung up at once */
-    bool fresh;            /* the set was made anew: for that, in data mode, or for the server's rate */
-    uint32_t rate;         /* the new one */
-    uint8_t key[2];        /* the key that is lit, as a fill gives it */
+    bool line;      /* a typed byte caused it, the last one */
+    bool hung_up;   /* it hung up at once */
+    bool fresh;     /* the set was made anew: for that, in data mode, or for the server's rate */
+    uint32_t rate;  /* the new one */
+    uint8_t key[2]; /* the key that is lit, as a fill gives it */
     gibbonplate_answer answer;
     gibbonplate_set set;
 } show_event;
@@ -46,8 +46,8 @@ typedef struct {
     char why[96];
     /* the callback's own */
     gibbonplate_set set;
-    uint32_t made;  /* the rate for which the set was made */
-    bool mute;      /* no set can be made for it */
+    uint32_t made; /* the rate for which the set was made */
+    bool mute;     /* no set can be made for it */
     bool carrier;
     uint8_t key[2]; /* of the last sample played */
     bool full;      /* the last byte found no place in the queue */
@@ -55,13 +55,13 @@ typedef struct {
     uint32_t typed; /* bytes */
     uint64_t rest;  /* of nanoseconds times the rate, carried over to the next buffer */
     /* written by one side and read by the other */
-    uint64_t frame;    /* frames played: where it stands still, nothing is heard */
-    uint32_t rate;     /* the server's */
-    uint32_t buffer;   /* its buffer length */
+    uint64_t frame;  /* frames played: where it stands still, nothing is heard */
+    uint32_t rate;   /* the server's */
+    uint32_t buffer; /* its buffer length */
     uint32_t m;
-    uint32_t late;     /* buffers that came too late, as the server counts them */
-    uint32_t lost;     /* events or samples for which a ring had no room */
-    bool ended;        /* the server went away */
+    uint32_t late;                      /* buffers that came too late, as the server counts them */
+    uint32_t lost;                      /* events or samples for which a ring had no room */
+    bool ended;                         /* the server went away */
     uint64_t calls, total_ns, worst_ns; /* of the callback */
 } show;
 
@@ -82,9 +82,9 @@ enum { STEP_TYPE, STEP_KEYS, STEP_CARRIER, STEP_HANGUP, STEP_WAIT, STEP_UNTIL, S
 
 typedef struct {
     int kind;
-    int line;       /* of the file, from 1 */
-    char *text;     /* of what is typed */
-    uint64_t ns;    /* of a wait */
+    int line;        /* of the file, from 1 */
+    char *text;      /* of what is typed */
+    uint64_t ns;     /* of a wait */
     uint32_t number; /* an icon, or frames */
 } script_step;
 
@@ -111,10 +111,10 @@ typedef struct {
 typedef struct {
     const show_event *event;
     const show_face *face;
-    uint64_t lit;         /* the frame that was heard when it was shown */
-    const char *typed;    /* since the row before */
-    const char *reply;    /* by the set */
-    const char *note;     /* by the show */
+    uint64_t lit;      /* the frame that was heard when it was shown */
+    const char *typed; /* since the row before */
+    const char *reply; /* by the set */
+    const char *note;  /* by the show */
 } book_row;
 
 bool book_open(book *b, const char *path);
@@ -142,16 +142,16 @@ typedef struct {
     int priority;          /* in real time where that is allowed, or 0 */
     const char *words[40]; /* its own, after the name */
     size_t count;
-    int fd;                /* -1 while it does not run */
+    int fd; /* -1 while it does not run */
     int pid;
-    uint64_t again_at;     /* ns: when it is started anew */
+    uint64_t again_at; /* ns: when it is started anew */
     uint64_t started_at;
     uint64_t wait_ns;
-    double may;            /* how many records are taken from it now */
+    double may; /* how many records are taken from it now */
     uint64_t may_at;
-    uint32_t missed;       /* changes for which it had no room */
+    uint32_t missed; /* changes for which it had no room */
     uint32_t starts;
-    char said[SHOW_TEXT];  /* when it was ready: where the panel is */
+    char said[SHOW_TEXT]; /* when it was ready: where the panel is */
 } outlet;
 
 /* Starts it, and waits until it says that it is ready. Where it does not, it has said why. */

@@ -74,8 +74,9 @@ static bool usage(const char *why, const char *word)
 static bool read_options(web *w, int argc, char **argv)
 {
     static const struct option known[] = {
-        {"http", required_argument, NULL, 'h'},  {"listen", required_argument, NULL, 'l'}, {"name", required_argument, NULL, 'n'},
-        {"token", required_argument, NULL, 't'}, {"sheet", required_argument, NULL, 's'},  {NULL, 0, NULL, 0},
+        {"http", required_argument, NULL, 'h'},  {"listen", required_argument, NULL, 'l'},
+        {"name", required_argument, NULL, 'n'},  {"token", required_argument, NULL, 't'},
+        {"sheet", required_argument, NULL, 's'}, {NULL, 0, NULL, 0},
     };
     int which;
 
@@ -105,7 +106,8 @@ static bool check_options(const web *w)
         return usage("a port to listen at is 1 to 65535, and not ", w->port);
     if (!is_address(w->listen))
         return usage("--listen wants an address of this machine, and not ", w->listen);
-    if (w->token && (len < 8 || len > 60 || strspn(w->token, "abcdefghijklmnopqrstuvwxyzABCDEFGHIJKLMNOPQRSTUVWXYZ0123456789-_") != len))
+    if (w->token && (len < 8 || len > 60 ||
+                     strspn(w->token, "abcdefghijklmnopqrstuvwxyzABCDEFGHIJKLMNOPQRSTUVWXYZ0123456789-_") != len))
         return usage("a token has 8 to 60 letters, digits, - and _", "");
     return true;
 }
@@ -139,7 +141,8 @@ static struct lws_context *listen_at(web *w)
 
     if (!vhost) {
         fprintf(stderr, "show: cannot listen at %s, port %s; another may be there already\n", w->listen, w->port);
-    } else if (fcntl(SHOW_OUTLET_FD, F_SETFL, O_NONBLOCK) != 0 || !lws_adopt_descriptor_vhost(vhost, LWS_ADOPT_RAW_FILE_DESC, in, "show", NULL)) {
+    } else if (fcntl(SHOW_OUTLET_FD, F_SETFL, O_NONBLOCK) != 0 ||
+               !lws_adopt_descriptor_vhost(vhost, LWS_ADOPT_RAW_FILE_DESC, in, "show", NULL)) {
         usage("show-web is started by show", "");
         vhost = NULL;
     }

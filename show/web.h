@@ -1,5 +1,5 @@
-/* show-web, the panel in a browser. web.c joins its parts; access.c says who may, pages.c gives out the page and the sheet, panels.c has the
- * browsers that have joined. One thread does all of it. */
+/* show-web, the panel in a browser. web.c joins its parts; access.c says who may, pages.c gives out the page and the
+ * sheet, panels.c has the browsers that have joined. One thread does all of it. */
 #ifndef SHOW_WEB_H
 #define SHOW_WEB_H
 
@@ -8,7 +8,7 @@
 #include <libwebsockets.h>
 
 enum {
-    MAX_PANELS = 64,  /* browsers at once */
+    MAX_PANELS = 64,   /* browsers at once */
     MAX_SOCKETS = 192, /* with those that only fetch the page */
     MAX_MESSAGE = 512, /* bytes of one from a browser */
     MAX_FACE = 8192,   /* bytes of one to a browser */

@@ -7,6 +7,7 @@ const $ = (id) => document.getElementById(id);
 /* for the tests: what came, and when it was shown, us of the day's clock */
 const measured = new URLSearchParams(location.search).has("measure") ? (window.measured = []) : null;
 const AGAIN_MS = 1000;
+const dayUs = () => Math.round((performance.timeOrigin + performance.now()) * 1000);
 let face = null, lostWhy = "connecting", version = 0, loading = false, faults = [];
 
 const show = new Show(location.hash.slice(1), {
@@ -15,7 +16,7 @@ const show = new Show(location.hash.slice(1), {
     face = next;
     lostWhy = "";
     draw();
-    if (measured && fresh) measured.push([next.change, next.heard, Math.round((performance.timeOrigin + performance.now()) * 1000), next.icon, next.key]);
+    if (measured && fresh) measured.push([next.change, next.heard, dayUs()]);
     if (next.sheet !== version) load();
   },
   onLost(why) {
@@ -38,14 +39,25 @@ function fill(text) {
   return text.replace(/\{([^}]*)\}/, (_, other) => $("line").value || other);
 }
 
+/* What a touch sends; null for one that sends nothing. */
+function message({ touch, text }) {
+  switch (touch) {
+    case "wait":
+    case "put": return null;
+    case "hangup": return "hangup";
+    case "carrier": return `carrier ${text.toLowerCase() || (face?.carrier ? "down" : "up")}`;
+    default: return `${touch} ${fill(text)}`;
+  }
+}
+
+/* One after the other; where one is not taken, those behind it are not sent either. */
 async function does(list) {
-  for (const { touch, text } of list) {
-    if (touch === "wait") await new Promise((then) => setTimeout(then, Number(text) * 1000));
-    else if (touch === "put") $("line").value += text;
-    else if (touch === "carrier") { if (!show.send(`carrier ${text.toLowerCase() || (face?.carrier ? "down" : "up")}`)) return; }
-    else if (touch === "hangup") { if (!show.send("hangup")) return; }
-    else if (!show.send(`${touch} ${fill(text)}`)) return;
-    else if (text.includes("{")) $("line").value = "";
+  for (const word of list) {
+    const sent = message(word);
+    if (sent !== null && !show.send(sent)) return;
+    if (word.touch === "wait") await new Promise((then) => setTimeout(then, Number(word.text) * 1000));
+    else if (word.touch === "put") $("line").value += word.text;
+    else if (word.text.includes("{")) $("line").value = "";
   }
 }
 
@@ -83,7 +95,8 @@ function report() {
   box.dataset.text = text;
   box.hidden = !all.length;
   box.firstElementChild.textContent = `sheet: ${all[0] || ""}${all.length > 1 ? ` (and ${all.length - 1} more)` : ""}`;
-  box.lastElementChild.replaceChildren(...all.map((line) => Object.assign(document.createElement("li"), { textContent: line })));
+  const items = all.map((line) => Object.assign(document.createElement("li"), { textContent: line }));
+  box.lastElementChild.replaceChildren(...items);
 }
 
 async function load() {
@@ -93,7 +106,8 @@ async function load() {
     const made = await show.sheet();
     sheet.draw(made);
     faults = made.own ? made.faults.split("\n").filter(Boolean) : [];
-    if (made.own) faults.push(...sheet.tooSmall().map(({ name, px }) => `"${name}" is ${px} px here: too small for a finger`));
+    const small = sheet.tooSmall().map(({ name, px }) => `"${name}" is ${px} px here: too small for a finger`);
+    if (made.own) faults.push(...small);
     version = made.version;
     loading = false;
   } catch (fault) {

@@ -1,4 +1,5 @@
-/* A sheet: it is drawn as the show hands it over, lit by a face, and says what is touched. What its elements are the show has read (sheet.c). */
+/* A sheet: it is drawn as the show hands it over, lit by a face, and says what is touched. What its elements are the
+ * show has read (sheet.c). */
 import { ICONS, withLine } from "./names.js";
 
 const FINGER_PX = 40, BOUNCE_MS = 300, PRESSED_MS = 150;
@@ -40,7 +41,8 @@ function write(element, text) {
 
 function writeReplies(element, said) {
   const lines = element.querySelectorAll("tspan");
-  if (lines.length) lines.forEach((line, i) => write(line, withLine(said[said.length - lines.length + i] || ["", ""]) || "\u00a0"));
+  const last = (i) => withLine(said[said.length - lines.length + i] || ["", ""]);
+  if (lines.length) lines.forEach((line, i) => write(line, last(i) || "\u00a0"));
   else write(element, said.map(withLine).filter(Boolean).join(" / "));
 }
 
@@ -70,7 +72,8 @@ export class Sheet {
   /* Draws a sheet, or throws what is wrong with it. */
   draw(made) {
     const parsed = new DOMParser().parseFromString(made.svg, "image/svg+xml");
-    if (parsed.querySelector("parsererror")) throw new Error(parsed.querySelector("parsererror").textContent.split("\n")[0]);
+    const fault = parsed.querySelector("parsererror");
+    if (fault) throw new Error(fault.textContent.split("\n")[0]);
     const svg = document.importNode(parsed.documentElement, true);
     const elements = [svg, ...svg.querySelectorAll("*")];
     this.lights = [];
@@ -99,7 +102,8 @@ export class Sheet {
     else this.texts.push({ element, what: word.write });
   }
 
-  /* A drawing has a frame of its own to be scaled to the screen. Where it has a second layout, `data-tall` has the places for an upright screen. */
+  /* A drawing has a frame of its own to be scaled to the screen. Where it has a second layout, `data-tall` has the
+   * places for an upright screen. */
   prepare(svg) {
     const width = parseFloat(svg.getAttribute("width")), height = parseFloat(svg.getAttribute("height"));
     if (!svg.hasAttribute("viewBox") && width > 0 && height > 0) svg.setAttribute("viewBox", `0 0 ${width} ${height}`);
@@ -133,7 +137,8 @@ export class Sheet {
     return this.touches
       .map(({ element, list }) => {
         const box = element.getBoundingClientRect();
-        return { name: list.map((w) => `${w.touch} ${w.text}`.trim()).join("; "), px: Math.round(Math.min(box.width, box.height)) };
+        const name = list.map((word) => `${word.touch} ${word.text}`.trim()).join("; ");
+        return { name, px: Math.round(Math.min(box.width, box.height)) };
       })
       .filter(({ px }) => px < FINGER_PX);
   }
@@ -155,7 +160,7 @@ export class Sheet {
     /* a finger that scrolls types nothing */
     element.addEventListener("pointerdown", (event) => !this.scrolled && event.button === 0 && press(event));
     element.addEventListener("click", (event) => this.scrolled && press(event));
-    element.addEventListener("keydown", (event) => (event.key === "Enter" || event.key === " ") && !event.repeat && press(event));
+    element.addEventListener("keydown", (event) => [" ", "Enter"].includes(event.key) && !event.repeat && press(event));
   }
 
   /* Shows a face; none is true where it is null. */

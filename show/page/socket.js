@@ -1,6 +1,7 @@
-/* The way to the show. Each message has the whole face, and is answered with `seen N`. Where none has come for a second, the show is lost: what is
- * sent then is not kept, and it is joined again, after a while that grows. */
-const LOST_MS = 1000, CONNECT_MS = 3000, FIRST_WAIT_MS = 250, LONGEST_WAIT_MS = 2000, LOOK_MS = 200, MOST_WAITING = 4096;
+/* The way to the show. Each message has the whole face, and is answered with `seen N`. Where none has come for a
+ * second, the show is lost: what is sent then is not kept, and it is joined again, after a while that grows. */
+const LOST_MS = 1000, CONNECT_MS = 3000, FIRST_WAIT_MS = 250, LONGEST_WAIT_MS = 2000, LOOK_MS = 200;
+const MOST_WAITING = 4096;
 
 export class Show {
   constructor(token, { onFace, onLost }) {
@@ -56,20 +57,22 @@ export class Show {
   }
 
   look() {
-    if (this.socket && performance.now() - this.lastAt > (this.socket.readyState === WebSocket.CONNECTING ? CONNECT_MS : LOST_MS))
-      this.lose("it says nothing");
+    const patience = this.socket?.readyState === WebSocket.CONNECTING ? CONNECT_MS : LOST_MS;
+    if (this.socket && performance.now() - this.lastAt > patience) this.lose("it says nothing");
   }
 
   /* Why the show does not let us in, where it says so: a browser does not tell its page. */
   async askWhy() {
     try {
       const answer = await fetch(`may${this.query}`, { cache: "no-store" });
-      if (!answer.ok && this.lost) this.onLost((await answer.text()).replace(/<[^>]*>/g, " ").replace(/^\s*\d+\s*/, "").trim());
+      const text = (await answer.text()).replace(/<[^>]*>/g, " ").replace(/^\s*\d+\s*/, "").trim();
+      if (!answer.ok && this.lost) this.onLost(text);
     } catch { /* it is not there at all */ }
   }
 
   send(text) {
-    if (this.lost || this.socket?.readyState !== WebSocket.OPEN || this.socket.bufferedAmount > MOST_WAITING) return false;
+    const open = !this.lost && this.socket?.readyState === WebSocket.OPEN;
+    if (!open || this.socket.bufferedAmount > MOST_WAITING) return false;
     this.socket.send(text);
     return true;
   }
