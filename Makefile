@@ -1,8 +1,8 @@
-.PHONY: rt call show cues test oracle listen bench edits c stage
+.PHONY: rt call show cues deps test gate oracle listen bench edits c stage
 
 # Rattle's toolchain, by which every program here is proved and built.
 rt:
-	@command -v rt >/dev/null || { echo "make: there is no rt, Rattle's toolchain; README.md says what it is, under \"To start\"" >&2; exit 1; }
+	$(if $(shell command -v rt 2>/dev/null),,$(error there is no rt, Rattle's toolchain; README.md says what it is, under "To start"))
 
 # A call to listen to, in call.wav, and a table of its stages. The program is proved before it is built.
 call: rt
@@ -10,7 +10,7 @@ call: rt
 	@bin/call
 	@echo "call.wav is written; what the toolchain said is in target/call.log"
 
-# The show: sound and icons live, over JACK. It is built to target/bin/show.
+# The show: sound and icons live, over JACK, and its panel in a browser. It is built to target/bin/show.
 show: rt
 	show/build
 
@@ -22,9 +22,16 @@ cues: rt
 	@$(CC) -std=c99 -O2 -Wall -Wextra -Iinclude examples/cues.c target/staticlib/libgibbonplate.a -o target/bin/cues
 	@target/bin/cues '$(DIGITS)' '$(RATE)'
 
-# The gate.
-test: rt
-	bash .ci/run
+# What the gate and the show need beyond the toolchain, from Debian; it wants to be root. tools/deps has the list.
+deps:
+	tools/deps --install
+
+# The gate. Where it fails, make's own last words are the gate's, which say what failed and how to run it alone.
+test: gate
+	$(if $(shell cat target/gate/failed 2>/dev/null),$(error $(shell cat target/gate/failed)))
+
+gate: rt
+	@bash .ci/run || [ -s target/gate/failed ] || { mkdir -p target/gate && echo "gate: FAILED: it was broken off; alone: bash .ci/run" >target/gate/failed; }
 
 # The Rust with 01's stand-ins, at target/oracle/oracle.
 oracle:
@@ -53,6 +60,9 @@ edits: rt
 c: rt
 	tests/c/run
 
-# The show on servers of its own, with JACK's dummy driver.
+# The show on servers of its own, with JACK's dummy driver; then its panel in a browser and its cues, where there is one to try them with. On a machine
+# that has nothing else to do, QUIET=1 judges how late the lights are too.
 stage: rt
-	tests/show/run
+	tests/show/run $(if $(QUIET),--lateness)
+	tests/show/words
+	for part in run hostile refuse; do tests/panel/$$part || [ $$? -eq 3 ] || exit 1; done

@@ -4,8 +4,8 @@
  * A set takes typed bytes, lapses of time and sample buffers. It gives replies, the bytes to send, the
  * sound of a dialled call sample by sample, and the stage of that call. It lies in memory that you
  * lend, one gibbonplate_set, which only the functions below write. They allocate nothing, hold nothing
- * between calls, print nothing, wait for nothing and call nobody, so an audio callback may call them;
- * but ask the plan's three before the call, since they take as long as many buffers.
+ * between calls, print nothing, wait for nothing and call nobody, but C's memcpy, memmove and memset, so an
+ * audio callback may call them; but ask the plan's three before the call, since they take as long as many buffers.
  *
  *     gibbonplate_set set;
  *     gibbonplate_new(&set, 48000);              // then, in the order in which things happen:
@@ -17,10 +17,11 @@
  * given as 16-bit samples for an earpiece, by the last four functions: they take digits and a rate, and no set.
  *
  * Every call answers. A call that is declined answers one of the numbers of gibbonplate_refusal, and
- * leaves the set and every buffer as they were, creation apart. Memory that holds no set, or one that
- * no calls can reach, is declined with 6 by every call but creation and the plain readers. All of this
- * is proved, for every content of the memory (docs/PROOF.md). What the proof takes for granted is yours
- * to see to:
+ * leaves the set and every buffer as they were, creation apart. Memory that holds no set, or one with something
+ * in it out of range, is declined with 6 by every call but creation and the plain readers. docs/BEHAVIOUR.md,
+ * "Refusals", has the ranges. A set in range is taken, also one that no calls lead to: a fresh one with 4,999,999
+ * written over its m, say. All of this is proved, for every content of the memory (docs/PROOF.md). What the
+ * proof takes for granted is yours to see to:
  *
  *   - Each pointer is to memory of its type, as long as the call is told, and may be written where it
  *     is not const. None is null, but that of a buffer of length 0 may be.
@@ -28,8 +29,12 @@
  *   - One call at a time on one set, and each call gets the set as the one before left it. Two sets
  *     have nothing to do with each other. Assigning a set copies it.
  *   - A bool is 0 or 1, as every C expression of the type is.
+ *   - Floats are rounded to nearest, as a program starts. Under fesetround(FE_UPWARD) digits 123 at 8,000 have
+ *     4,800 samples in Dialling and not 4,801, and T is 83,134 and not 83,138. Under FE_DOWNWARD and
+ *     FE_TOWARDZERO these two stay, and samples differ under all three. Flush-to-zero and denormals-are-zero,
+ *     which some audio hosts set, may be on: in whole calls no bit was another one (tests/c/modes.c).
  *   - The program is for x86-64, and is linked with libgibbonplate.a, which `tools/build gibbonplate`
- *     writes to target/staticlib.
+ *     writes to target/staticlib, and with memcpy, memmove and memset: the archive wants these and nothing else.
  */
 #ifndef GIBBONPLATE_H
 #define GIBBONPLATE_H
@@ -61,7 +66,7 @@ enum gibbonplate_refusal {
     GIBBONPLATE_BAD_RATE = 1,      /* creation, a plan, the earpiece: a rate outside 8,000 to 192,000 */
     GIBBONPLATE_SHORT_OUTBOX = 2,  /* a typed byte: an outbox under 4 bytes */
     GIBBONPLATE_LONG_FILL = 3,     /* a fill, the earpiece: over 65,536 samples */
-    GIBBONPLATE_UNSOUND = 6,       /* the memory holds no set that calls can reach */
+    GIBBONPLATE_UNSOUND = 6,       /* the memory holds no set, or one out of range */
     GIBBONPLATE_BAD_POSITION = 7,  /* a cue: nothing is being dialled, or it has no such digit */
     GIBBONPLATE_LONG_STRING = 8,   /* a string of over 256 bytes */
     GIBBONPLATE_STRING_ROOM = 9,   /* a string: an outbox under 4 bytes a byte, or a code buffer under 3 */
@@ -235,7 +240,10 @@ static inline uint8_t gibbonplate_state(const gibbonplate_set *set)
     return gibbonplate_state_in(GIBBONPLATE_OF(set));
 }
 
-/* The stage that is shown, 1 to 9, or 0 for none: that of the last sample written. Stage 10 is state 3. */
+/*
+ * The stage that is shown, 1 to 9, or 0 for none: that of the last sample written, or after an empty fill that of
+ * the next one. Stage 10 is state 3.
+ */
 static inline uint8_t gibbonplate_stage(const gibbonplate_set *set)
 {
     return gibbonplate_stage_in(GIBBONPLATE_OF(set));

@@ -1,21 +1,27 @@
-/* The terminal as the panel: eleven icons, the keypad, the lines typed and the replies. A parent process holds the terminal's settings and puts them back
- * when the show ends, whatever ends it. */
+/* The terminal as the panel: eleven icons, the keypad, the lines typed and the replies. A parent process holds the
+ * terminal's settings and puts them back when the show ends, whatever ends it. */
 #define _DEFAULT_SOURCE
 #include "show.h"
 #include <errno.h>
 #include <signal.h>
-#include <stdio.h>
+#include <stdarg.h>
 #include <stdlib.h>
 #include <string.h>
+#include <sys/ioctl.h>
 #include <sys/prctl.h>
 #include <sys/wait.h>
 #include <termios.h>
 #include <unistd.h>
 
-static const char *const names[12] = {"", "OffHook", "DialTone", "Dialling", "Ringback", "Ci", "Ansam",
-                                      "CmJm", "Cj", "Training", "Connected", "carrier"};
+/* A page of the terminal as it is put together, and the lines that are left for it. */
+typedef struct {
+    char text[8192];
+    size_t at;
+    int left, columns;
+} page;
 
-static const char keypad[] = "123A456B789C*0#D";
+static bool on; /* standard output is a terminal */
+static const char *address = "";
 
 static volatile pid_t child;
 
@@ -76,67 +82,135 @@ void panel_guard(void)
         ;
     tcsetattr(STDIN_FILENO, TCSANOW, &was);
     if (isatty(STDOUT_FILENO))
-        write_all("\033[?25h\033[0m\n");
+        write_all("\033[?7h\033[?25h\033[0m\n");
     if (WIFSIGNALED(status))
         fprintf(stderr, "show: ended by signal %d\n", WTERMSIG(status));
     exit(WIFEXITED(status) ? WEXITSTATUS(status) : 1);
 }
 
-void panel_start(panel *p)
+void panel_start(const char *where)
 {
-    p->on = isatty(STDOUT_FILENO);
-    if (p->on)
-        write_all("\033[2J\033[?25l");
+    address = where;
+    on = isatty(STDOUT_FILENO);
+    if (on)
+        write_all("\033[2J\033[?7l\033[?25l"); /* what is too long for a line is cut, and moves nothing */
 }
 
-void panel_type(panel *p, uint8_t byte)
+__attribute__((format(printf, 2, 3))) static void put(page *p, const char *format, ...)
 {
-    size_t len = strlen(p->typed);
+    size_t room = sizeof p->text - p->at;
+    va_list rest;
+    int n;
 
-    if (byte == '\r')
-        p->typed[0] = 0;
-    else if (byte >= 32 && byte < 127 && len + 1 < sizeof p->typed) {
-        p->typed[len] = (char)byte;
-        p->typed[len + 1] = 0;
-    }
+    va_start(rest, format);
+    n = vsnprintf(p->text + p->at, room, format, rest);
+    va_end(rest);
+    if (n > 0)
+        p->at += (size_t)n < room ? (size_t)n : room - 1;
 }
 
-void panel_say(panel *p, const char *text)
+static void end_line(page *p)
 {
-    memmove(p->said[0], p->said[1], sizeof p->said - sizeof p->said[0]);
-    snprintf(p->said[7], sizeof p->said[7], "%s", text);
+    put(p, "\033[K%s", --p->left > 0 ? "\n" : "");
 }
 
-void panel_draw(const panel *p)
+static const char *shade(bool lit)
 {
-    char page[4096];
-    size_t at = 0;
-    int i, column;
+    return lit ? "\033[1;7m" : "\033[2m";
+}
 
-#define PUT(...) (at += (size_t)snprintf(page + at, at < sizeof page ? sizeof page - at : 0, __VA_ARGS__))
-    if (!p->on)
-        return;
-    PUT("\033[H\033[1mGibbonplate\033[0m   Tab: carrier   Ctrl-C: end\033[K\n\033[K\n");
-    for (i = 1; i <= 16; i++) {
-        bool lit = i == 11 ? p->carrier : i == p->icon;
-        if (i <= 11)
-            PUT("%s %2d %-10s\033[0m  ", lit ? "\033[1;7m" : "\033[2m", i, names[i]);
+static void put_keys(page *p, const show_face *face, int row)
+{
+    int column;
+
+    for (column = 0; column < 4; column++)
+        put(p, "%s %c \033[0m", shade(face->sounding && face->key[0] == row && face->key[1] == column),
+            show_keypad[row * 4 + column]);
+}
+
+/* As many icons beside one another as there is room for, and the keypad beside them, where there is room for it too. */
+static void put_icons(page *p, const show_face *face)
+{
+    enum { ICON = 16, KEYS = 12 };
+    int across = p->columns >= 4 * ICON ? 4 : p->columns >= 2 * ICON ? 2 : 1;
+    bool keys = across == 4 && p->columns >= 4 * ICON + KEYS;
+    int i, rows = keys ? 4 : (11 + across - 1) / across;
+
+    for (i = 0; i < rows * across; i++) {
+        int icon = i + 1;
+
+        if (icon <= 11)
+            put(p, "%s %2d %-10s\033[0m  ", shade(face->sounding && (icon == 11 ? face->carrier : icon == face->icon)),
+                icon, show_names[icon]);
         else
-            PUT("%16s", "");
-        if (i % 4 == 0) {
-            for (column = 0; column < 4; column++)
-                PUT("%s %c \033[0m", p->key[0] == i / 4 - 1 && p->key[1] == column ? "\033[1;7m" : "\033[2m", keypad[i - 4 + column]);
-            PUT("\033[K\n");
+            put(p, "%*s", ICON, "");
+        if ((i + 1) % across == 0) {
+            if (keys)
+                put_keys(p, face, i / across);
+            end_line(p);
         }
     }
-    PUT("\033[K\n");
-    PUT("%u Hz, buffers of %u, sample %u", p->rate, p->buffer, p->m);
-    if (p->total > 0)
-        PUT(" of %u (%u %%)", p->total, (unsigned)((uint64_t)(p->m < p->total ? p->m : p->total) * 100 / p->total));
-    PUT(", late %u\033[K\n\033[K\n", p->late);
-    for (i = 0; i < 8; i++)
-        PUT("%s\033[K\n", p->said[i]);
-    PUT("%s %s\033[7m \033[0m\033[K", p->mode == 'D' ? "sent:" : "command:", p->typed);
-#undef PUT
-    write_all(page);
+}
+
+static void put_figures(page *p, const show_face *face)
+{
+    uint32_t m = face->total && face->m > face->total ? face->total : face->m;
+
+    put(p, "%u Hz, buffers of %u, sample %u", face->rate, face->buffer, m);
+    if (face->total)
+        put(p, " of %u (%u %%)", face->total, (unsigned)((uint64_t)m * 100 / face->total));
+    put(p, ", late %u", face->late);
+    end_line(p);
+}
+
+static void put_replies(page *p, const show_face *face)
+{
+    int i, shown = p->left - 1 < SHOW_REPLIES ? p->left - 1 : SHOW_REPLIES;
+
+    for (i = SHOW_REPLIES - shown; i < SHOW_REPLIES; i++) {
+        const show_reply *reply = &face->reply[i];
+
+        if (reply->line[0])
+            put(p, "%s  \033[2m->\033[0m  ", reply->line);
+        put(p, "%s", reply->text);
+        end_line(p);
+    }
+}
+
+/* The icons come first and the line that is typed last; what a small terminal has no room for is left out between them.
+ */
+void panel_draw(const show_face *face)
+{
+    page p = {.left = 24, .columns = 80};
+    struct winsize size;
+    int icons;
+
+    if (!on)
+        return;
+    if (ioctl(STDOUT_FILENO, TIOCGWINSZ, &size) == 0 && size.ws_row > 0 && size.ws_col > 0) {
+        p.left = size.ws_row;
+        p.columns = size.ws_col;
+    }
+    icons = p.columns >= 64 ? 4 : p.columns >= 32 ? 6 : 11;
+    put(&p, "\033[H");
+    if (p.left > icons + 2) {
+        put(&p, "\033[1mGibbonplate\033[0m   Tab: carrier   Ctrl-X: hang up   Ctrl-C: end   %s", address);
+        end_line(&p);
+    }
+    if (p.left > icons + 5)
+        end_line(&p);
+    put_icons(&p, face);
+    if (p.left > 1 && (face->notice[0] || !face->sounding)) {
+        put(&p, "\033[1;7m%s\033[0m", face->notice[0] ? face->notice : "no sound: the server asks for none");
+        end_line(&p);
+    } else if (p.left > 3)
+        end_line(&p);
+    if (p.left > 1)
+        put_figures(&p, face);
+    if (p.left > 3)
+        end_line(&p);
+    put_replies(&p, face);
+    if (p.left > 0)
+        put(&p, "%s %s\033[7m \033[0m\033[K\033[J", face->mode == 'D' ? "sent:" : "command:", face->typed);
+    write_all(p.text);
 }

@@ -27,6 +27,7 @@ static void unlit(show *s)
 static void tell(show *s, const gibbonplate_set *set, jack_nframes_t start, size_t at, show_event event)
 {
     event.frame = s->frame + at;
+    event.typed = s->typed;
     event.time = start + (jack_nframes_t)at;
     event.carrier = s->carrier;
     event.key[0] = s->key[0];
@@ -38,7 +39,8 @@ static void tell(show *s, const gibbonplate_set *set, jack_nframes_t start, size
         jack_ringbuffer_write(s->events, (const char *)&event, sizeof event);
 }
 
-/* What data mode sends waits to be heard once the line is up. A full queue is told once, until a byte has a place again. */
+/* What data mode sends waits to be heard once the line is up. A full queue is told once, until a byte has a place
+ * again. */
 static void queue(show *s, const uint8_t *outbox, show_event *event)
 {
     size_t i;
@@ -52,22 +54,85 @@ static void queue(show *s, const uint8_t *outbox, show_event *event)
     }
 }
 
+static void feed(show *s, jack_nframes_t start, uint8_t byte, bool hung_up)
+{
+    show_event event = {.line = !hung_up, .hung_up = hung_up};
+    uint8_t outbox[GIBBONPLATE_MIN_OUTBOX];
+    uint8_t icon = show_icon(&s->set), mode = gibbonplate_mode(&s->set);
+
+    event.refusal = gibbonplate_feed(&s->set, byte, s->carrier, outbox, sizeof outbox, &event.answer);
+    queue(s, outbox, &event);
+    s->half = byte != '\r' && gibbonplate_mode(&s->set) == 'C';
+    if (event.refusal || event.answer.codes[0] || show_icon(&s->set) != icon || gibbonplate_mode(&s->set) != mode)
+        tell(s, &s->set, start, 0, event);
+}
+
+/* More than a line holds, so that its Return gives ERROR and whatever was typed of it does nothing. That ERROR is not
+ * told. */
+static void drop_half(show *s)
+{
+    uint8_t outbox[GIBBONPLATE_MIN_OUTBOX];
+    gibbonplate_answer answer;
+    int i;
+
+    for (i = 0; i <= GIBBONPLATE_MAX_LINE; i++)
+        gibbonplate_feed(&s->set, 'x', s->carrier, outbox, sizeof outbox, &answer);
+    gibbonplate_feed(&s->set, '\r', s->carrier, outbox, sizeof outbox, &answer);
+}
+
+static void fresh(show *s, jack_nframes_t start, bool hung_up)
+{
+    show_event event = {.fresh = true, .hung_up = hung_up, .rate = s->rate};
+
+    event.refusal = gibbonplate_new(&s->set, s->rate);
+    s->made = s->rate;
+    s->mute = event.refusal != GIBBONPLATE_ACCEPTED;
+    s->rest = 0;
+    s->full = s->half = false;
+    unlit(s);
+    tell(s, &s->set, start, 0, event);
+}
+
+/* Hangs up at once: by ATH where the set takes commands. In data mode the escape takes two guard times: the set is made
+ * anew. */
+static void hang_up(show *s, jack_nframes_t start)
+{
+    const char *line;
+
+    if (gibbonplate_mode(&s->set) != 'C') {
+        fresh(s, start, true);
+        return;
+    }
+    if (s->half)
+        drop_half(s);
+    for (line = "ATH\r"; *line; line++)
+        feed(s, start, (uint8_t)*line, true);
+}
+
 static void typed(show *s, jack_nframes_t start)
 {
+    static const show_event plain = {0};
     show_key key;
 
     while (jack_ringbuffer_read(s->keys, (char *)&key, sizeof key) == sizeof key) {
-        show_event event = {0};
-        uint8_t outbox[GIBBONPLATE_MIN_OUTBOX];
-        uint8_t icon = show_icon(&s->set), mode = gibbonplate_mode(&s->set);
+        bool carrier = key.kind == KEY_CARRIER_TURNED ? !s->carrier : key.kind == KEY_CARRIER_UP;
 
-        if (key.carrier)
-            s->carrier = !s->carrier;
-        else
-            event.refusal = gibbonplate_feed(&s->set, key.byte, s->carrier, outbox, sizeof outbox, &event.answer);
-        queue(s, outbox, &event);
-        if (key.carrier || event.refusal || event.answer.codes[0] || show_icon(&s->set) != icon || gibbonplate_mode(&s->set) != mode)
-            tell(s, &s->set, start, 0, event);
+        switch (key.kind) {
+        case KEY_BYTE:
+            s->typed++;
+            if (!s->mute) /* at a rate that no set has, what is typed is dropped */
+                feed(s, start, key.byte, false);
+            break;
+        case KEY_HANGUP:
+            if (!s->mute)
+                hang_up(s, start);
+            break;
+        default:
+            if (carrier != s->carrier && !s->mute) {
+                s->carrier = carrier;
+                tell(s, &s->set, start, 0, plain);
+            }
+        }
     }
 }
 
@@ -84,13 +149,15 @@ static void passed(show *s, jack_nframes_t start, jack_nframes_t frames)
 }
 
 /* Whether a set after a fill shows what this one shows, of which this key is lit. */
-static bool same_lights(const gibbonplate_set *set, const uint8_t key[2], const gibbonplate_set *after, const uint8_t lit[2])
+static bool same_lights(const gibbonplate_set *set, const uint8_t key[2], const gibbonplate_set *after,
+                        const uint8_t lit[2])
 {
     return show_icon(set) == show_icon(after) && key[0] == lit[0] && key[1] == lit[1];
 }
 
-/* Tells each icon and each key that came in a fill with the frame of its first sample, which the set has not said: it shows the last sample's. So
- * the fill is made again from the set before it, in ever shorter parts. A fill is so short that nothing is shown twice in it. */
+/* Tells each icon and each key that came in a fill with the frame of its first sample, which the set has not said: it
+ * shows the last sample's. So the fill is made again from the set before it, in ever shorter parts. A fill is so short
+ * that nothing is shown twice in it. */
 static void lights(show *s, gibbonplate_set before, jack_nframes_t start, size_t at, size_t len)
 {
     static float scratch[GIBBONPLATE_MAX_FILL];
@@ -153,31 +220,19 @@ static int process(jack_nframes_t frames, void *with)
     jack_nframes_t start = jack_last_frame_time(s->client);
     size_t at;
 
-    if (s->rate != s->made) {
-        show_event event = {0};
-        event.fresh = true;
-        event.rate = s->rate;
-        event.refusal = gibbonplate_new(&s->set, s->rate);
-        s->made = s->rate;
-        s->mute = event.refusal != GIBBONPLATE_ACCEPTED;
-        s->rest = 0;
-        s->full = false;
-        unlit(s);
-        tell(s, &s->set, start, 0, event);
-    }
+    if (s->rate != s->made)
+        fresh(s, start, false);
+    typed(s, start);
     if (s->mute) {
-        /* no set plays at this rate: silence, and what is typed is dropped, until the rate changes again */
-        jack_ringbuffer_read_advance(s->keys, jack_ringbuffer_read_space(s->keys));
         memset(out, 0, frames * sizeof *out);
     } else {
-        typed(s, start);
         passed(s, start, frames);
         for (at = 0; at < frames; at += longest(s))
             fill(s, out, start, at, frames - at < longest(s) ? frames - at : longest(s));
     }
     if (s->take && jack_ringbuffer_write(s->take, (const char *)out, frames * sizeof *out) < frames * sizeof *out)
         add(&s->lost);
-    s->frame += frames;
+    __atomic_store_n(&s->frame, s->frame + frames, __ATOMIC_RELAXED);
     __atomic_store_n(&s->m, gibbonplate_m(&s->set), __ATOMIC_RELAXED);
     took = now_ns() - began;
     s->calls++;
@@ -226,29 +281,43 @@ static jack_ringbuffer_t *ring(size_t bytes)
     return r;
 }
 
-bool show_open(show *s, const char *server, bool take)
+bool show_open(show *s, bool take)
 {
-    jack_set_error_function(silent);
-    jack_set_info_function(silent);
-    s->client = jack_client_open("gibbonplate", server ? JackNoStartServer | JackServerName : JackNoStartServer, NULL, server);
-    if (!s->client) {
-        fputs("show: no JACK server answers; start one, as `jackd -d alsa`, or run show by PipeWire's pw-jack\n", stderr);
-        return false;
-    }
-    s->rate = s->made = jack_get_sample_rate(s->client);
-    s->buffer = jack_get_buffer_size(s->client);
-    if (gibbonplate_new(&s->set, s->rate) != GIBBONPLATE_ACCEPTED) {
-        fprintf(stderr, "show: the server runs at %u samples a second; the set takes 8000 to 192000\n", s->rate);
-        return false;
-    }
-    unlit(s);
     s->keys = ring(4096 * sizeof(show_key));
     s->events = ring(1024 * sizeof(show_event));
     s->take = take ? ring((size_t)1 << 23) : NULL;
+    unlit(s);
+    jack_set_error_function(silent);
+    jack_set_info_function(silent);
+    return s->keys && s->events && (s->take || !take);
+}
+
+const char *show_join(show *s, const char *server)
+{
+    jack_status_t status = 0;
+
+    s->client = jack_client_open("gibbonplate", server ? JackNoStartServer | JackServerName : JackNoStartServer,
+                                 &status, server);
+    if (!s->client)
+        return "no JACK server answers; start one, as `jackd -d alsa`, or run show by PipeWire's pw-jack";
+    s->beside_another = (status & JackNameNotUnique) != 0;
+    s->ended = false;
+    s->rate = jack_get_sample_rate(s->client);
+    s->buffer = jack_get_buffer_size(s->client);
     s->port = jack_port_register(s->client, "out", JACK_DEFAULT_AUDIO_TYPE, JackPortIsOutput | JackPortIsTerminal, 0);
-    if (!s->keys || !s->events || (take && !s->take) || !s->port) {
-        fputs("show: there is no memory for its rings, or the server gives no port\n", stderr);
-        return false;
+    if (!s->port) {
+        show_leave(s);
+        return "the JACK server gives no port";
+    }
+    if (s->made) {
+        s->made = 0; /* it had another server: the first buffer makes a fresh set */
+    } else if (gibbonplate_new(&s->set, s->rate) == GIBBONPLATE_ACCEPTED) {
+        s->made = s->rate;
+    } else {
+        snprintf(s->why, sizeof s->why, "the server runs at %u samples a second; the set takes 8000 to 192000",
+                 s->rate);
+        show_leave(s);
+        return s->why;
     }
     jack_set_process_callback(s->client, process, s);
     jack_set_sample_rate_callback(s->client, new_rate, s);
@@ -256,16 +325,23 @@ bool show_open(show *s, const char *server, bool take)
     jack_set_xrun_callback(s->client, late, s);
     jack_on_shutdown(s->client, ended, s);
     if (jack_activate(s->client) != 0) {
-        fputs("show: the server does not let it play\n", stderr);
-        return false;
+        show_leave(s);
+        return "the JACK server does not let it play";
     }
-    return true;
+    return NULL;
+}
+
+void show_leave(show *s)
+{
+    if (s->client)
+        jack_client_close(s->client);
+    s->client = NULL;
+    s->port = NULL;
 }
 
 void show_close(show *s)
 {
-    if (s->client)
-        jack_client_close(s->client);
+    show_leave(s);
     if (s->keys)
         jack_ringbuffer_free(s->keys);
     if (s->events)

@@ -1,35 +1,54 @@
 /*
- * show: a call that is heard and lit from one state.
+ * show: a call that is heard and lit from one state. `show --help` says what it takes.
  *
- *     show [--log FILE] [--take FILE] [--keys FILE] [--server NAME] [--to PORT]
- *
- * What is typed goes to the set, Return as CR; Tab raises and drops the carrier flag; Ctrl-C ends.
+ * What is typed goes to the set, Return as CR; Tab raises and drops the carrier flag; Ctrl-X hangs up; Ctrl-C ends.
  * An icon is lit when its first sample is heard: not when it was made, but the port's latency later.
  */
-#define _DEFAULT_SOURCE
+#define _GNU_SOURCE
 #include "show.h"
+#include "options.h"
 #include <errno.h>
 #include <jack/thread.h>
-#include <pthread.h>
 #include <poll.h>
+#include <pthread.h>
 #include <signal.h>
-#include <stdio.h>
+#include <stdarg.h>
 #include <stdlib.h>
 #include <string.h>
 #include <time.h>
 #include <unistd.h>
 
-enum { PENDING = 1024, LIGHTS_MS = 1, CARRIER_KEY = '\t' };
+enum { PENDING = 1024, TYPED = 8192, CARRIER_KEY = '\t', HANGUP_KEY = 24, OUTLETS = 3 };
+enum { LIGHTS_MS = 1, DRAW_MS = 50, BEAT_MS = 100, SILENT_MS = 500, JOIN_MS = 1000, PASSED_MS = 1000, END_S = 10 };
+
+/* The bytes handed to the set: each has a number, and the last TYPED of them are kept. */
+typedef struct {
+    char bytes[TYPED];
+    uint32_t count;
+    uint32_t from;   /* where the line that is shown begins */
+    uint32_t mode;   /* where the mode last changed */
+    uint32_t logged; /* where the log's next row begins */
+    uint64_t at;     /* when the last was handed in, ns */
+} typing;
 
 typedef struct {
-    FILE *log, *take, *keys;
-    const char *log_path, *take_path, *keys_path, *server, *to;
-    uint32_t taken;       /* samples in the take */
+    options opt;
+    show s;
+    book log, take;
+    uint32_t taken; /* samples in the take */
+    script keys;
     show_event pending[PENDING]; /* told, and not yet heard */
     size_t first, count;
-    /* the script of keys */
-    uint64_t wait_until;  /* of the clock, ns */
-    int wait_icon;        /* 0 for none */
+    typing typed;
+    show_face face;
+    show_change change; /* the last one told */
+    bool all;           /* an outlet wants to be told everything */
+    outlet outlets[OUTLETS];
+    uint64_t frame_seen, frame_at; /* where the sound was when it last moved, and the clock then */
+    uint64_t join_at;
+    uint32_t buffer; /* the server's own length, where a script has set another */
+    bool input_over;
+    bool away; /* the server has ended, and no other has come */
     int status;
 } desk;
 
@@ -41,7 +60,14 @@ static void stopped(int signal)
     stop = 1;
 }
 
-static uint64_t clock_ns(void)
+/* A server that hangs must not keep the show from ending; all files are closed by then. */
+static void ended_late(int signal)
+{
+    (void)signal;
+    _exit(1);
+}
+
+uint64_t clock_ns(void)
 {
     struct timespec t;
 
@@ -49,116 +75,226 @@ static uint64_t clock_ns(void)
     return (uint64_t)t.tv_sec * 1000000000 + (uint64_t)t.tv_nsec;
 }
 
-/* ---- the take */
-
-static void wav_header(FILE *file, uint32_t rate, uint32_t samples)
+static uint64_t ms(uint64_t count)
 {
-    uint32_t bytes = samples * 4;
-    uint32_t words[11];
-
-    memcpy(&words[0], "RIFF", 4);
-    words[1] = 36 + bytes;
-    memcpy(&words[2], "WAVE", 4);
-    memcpy(&words[3], "fmt ", 4);
-    words[4] = 16;
-    words[5] = 3 | 1u << 16; /* floats, one channel */
-    words[6] = rate;
-    words[7] = rate * 4;
-    words[8] = 4 | 32u << 16;
-    memcpy(&words[9], "data", 4);
-    words[10] = bytes;
-    fwrite(words, 4, 11, file);
+    return count * 1000000;
 }
 
-static void record(desk *d, show *s)
-{
-    char bytes[16384];
-    size_t n;
+/* ---- what the operator is told */
 
-    while (d->take && (n = jack_ringbuffer_read(s->take, bytes, sizeof bytes)) > 0)
-        d->taken += (uint32_t)(fwrite(bytes, 1, n, d->take) / 4);
+static void add_reply(show_face *f, const char *line, const char *text)
+{
+    show_reply *last = &f->reply[SHOW_REPLIES - 1];
+
+    memmove(f->reply, f->reply + 1, sizeof f->reply - sizeof *f->reply);
+    snprintf(last->line, sizeof last->line, "%s", line);
+    snprintf(last->text, sizeof last->text, "%s", text);
+    f->replies++;
 }
 
-static void finish(desk *d, FILE *file, const char *path)
+/* Among the replies, in the log, and on standard error where no panel is drawn. */
+__attribute__((format(printf, 2, 3))) static void tell_operator(desk *d, const char *format, ...)
 {
-    if (file && (fflush(file) != 0 || ferror(file) || fclose(file) != 0)) {
-        fprintf(stderr, "show: cannot write \"%s\": %s\n", path, strerror(errno));
-        d->status = 1;
-    }
+    char text[SHOW_REPLY];
+    static const show_event nothing;
+    show_event event = nothing;
+    va_list rest;
+
+    va_start(rest, format);
+    vsnprintf(text, sizeof text, format, rest);
+    va_end(rest);
+    add_reply(&d->face, "", text);
+    event.frame = __atomic_load_n(&d->s.frame, __ATOMIC_RELAXED);
+    log_row(&d->log, &(book_row){&event, &d->face, event.frame, "", "", text});
+    if (!isatty(STDOUT_FILENO))
+        fprintf(stderr, "show: %s\n", text);
 }
 
 /* ---- typing */
 
-static void key(show *s, panel *p, uint8_t byte)
+/* The bytes from one number up to another, the last ones where they are too many; the printable ones alone, or all but
+ * 0. */
+static void typed_text(const typing *t, uint32_t from, uint32_t to, bool printable, char *text, size_t room)
 {
-    show_key k = {byte == CARRIER_KEY, byte};
+    size_t at = 0;
 
-    if (jack_ringbuffer_write_space(s->keys) >= sizeof k) {
-        jack_ringbuffer_write(s->keys, (const char *)&k, sizeof k);
-        if (!k.carrier)
-            panel_type(p, byte);
+    if (to - from > room - 1)
+        from = to - (uint32_t)(room - 1);
+    for (; from != to; from++) {
+        char c = t->bytes[from % TYPED];
+
+        if (c && (!printable || (c >= 32 && c < 127)))
+            text[at++] = c;
+    }
+    text[at] = 0;
+}
+
+static void show_typing(desk *d)
+{
+    typed_text(&d->typed, d->typed.from, d->typed.count, true, d->face.typed, sizeof d->face.typed);
+}
+
+/* The line whose Return is the byte before a number: no more than was typed in this mode. */
+static void typed_line(const typing *t, uint32_t end, char *text, size_t room)
+{
+    uint32_t from = end - 1;
+
+    while (from != t->mode && end - from < TYPED && end - from < room && t->bytes[(from - 1) % TYPED] != '\r')
+        from--;
+    typed_text(t, from, end - 1, true, text, room);
+}
+
+static bool hand_in(desk *d, uint8_t kind, uint8_t byte)
+{
+    show_key k = {kind, byte};
+    typing *t = &d->typed;
+
+    if (d->away || jack_ringbuffer_write_space(d->s.keys) < sizeof k)
+        return false;
+    jack_ringbuffer_write(d->s.keys, (const char *)&k, sizeof k);
+    t->at = clock_ns();
+    if (kind == KEY_BYTE) {
+        t->bytes[t->count++ % TYPED] = (char)byte;
+        if (byte == '\r')
+            t->from = t->count;
+        show_typing(d);
+    }
+    return true;
+}
+
+static void key(desk *d, uint8_t byte)
+{
+    hand_in(d, byte == CARRIER_KEY ? KEY_CARRIER_TURNED : byte == HANGUP_KEY ? KEY_HANGUP : KEY_BYTE, byte);
+}
+
+static void text(desk *d, const char *bytes)
+{
+    for (; *bytes; bytes++)
+        hand_in(d, KEY_BYTE, (uint8_t)*bytes);
+}
+
+/* What was typed at an outlet: all of it or none, and nothing comes between. */
+static void from_outlet(desk *d, const show_typed *t)
+{
+    size_t i;
+
+    switch (t->kind) {
+    case TYPED_TEXT:
+        if (t->len <= SHOW_TEXT && jack_ringbuffer_write_space(d->s.keys) >= t->len * sizeof(show_key))
+            for (i = 0; i < t->len; i++)
+                hand_in(d, KEY_BYTE, t->bytes[i]);
+        break;
+    case TYPED_CARRIER_TURNED:
+        hand_in(d, KEY_CARRIER_TURNED, 0);
+        break;
+    case TYPED_CARRIER_DOWN:
+        hand_in(d, KEY_CARRIER_DOWN, 0);
+        break;
+    case TYPED_CARRIER_UP:
+        hand_in(d, KEY_CARRIER_UP, 0);
+        break;
+    case TYPED_HANGUP:
+        hand_in(d, KEY_HANGUP, 0);
+        break;
+    case TYPED_ASK:
+        d->all = true;
+        break;
     }
 }
 
-static void text(show *s, panel *p, const char *bytes)
+/* Waits a little for keys. One who has been heard enough for now does not wake this thread: in real time it would spin,
+ * and be held up for it. */
+static void listen_to_keys(desk *d)
 {
-    while (*bytes)
-        key(s, p, (uint8_t)*bytes++);
-}
-
-/* A line of the script: `type TEXT` with Return behind it, `keys TEXT`, `carrier`, `wait SECONDS`, `until ICON`, `buffer FRAMES`, `end`. */
-static void scripted(desk *d, show *s, panel *p)
-{
-    char line[512];
-
-    while (d->keys && d->wait_until <= clock_ns() && (d->wait_icon == 0 || d->wait_icon == p->icon)) {
-        d->wait_icon = 0;
-        if (!fgets(line, sizeof line, d->keys)) {
-            fclose(d->keys);
-            d->keys = NULL;
-            return;
-        }
-        line[strcspn(line, "\r\n")] = 0;
-        if (strncmp(line, "type ", 5) == 0) {
-            text(s, p, line + 5);
-            key(s, p, '\r');
-        } else if (strncmp(line, "keys ", 5) == 0) {
-            text(s, p, line + 5);
-        } else if (strcmp(line, "carrier") == 0) {
-            key(s, p, CARRIER_KEY);
-        } else if (strncmp(line, "wait ", 5) == 0) {
-            d->wait_until = clock_ns() + (uint64_t)(strtod(line + 5, NULL) * 1e9);
-        } else if (strncmp(line, "until ", 6) == 0) {
-            d->wait_icon = atoi(line + 6);
-        } else if (strncmp(line, "buffer ", 7) == 0) {
-            jack_set_buffer_size(s->client, (jack_nframes_t)atoi(line + 7));
-        } else if (strcmp(line, "end") == 0) {
-            stop = 1;
-        } else if (line[0] != 0 && line[0] != '#') {
-            fprintf(stderr, "show: \"%s\" has a line that is none of its own: %s\n", d->keys_path, line);
-            d->status = 1;
-            stop = 1;
-        }
-    }
-}
-
-static void at_terminal(show *s, panel *p, int wait_ms)
-{
-    struct pollfd in = {STDIN_FILENO, POLLIN, 0};
+    struct pollfd in[OUTLETS + 1];
     uint8_t bytes[64];
     ssize_t n, i;
-    static bool over;
 
-    if (over) {
-        poll(NULL, 0, wait_ms);
-        return;
-    }
-    if (poll(&in, 1, wait_ms) <= 0)
+    for (i = 0; i < OUTLETS; i++)
+        in[i] = (struct pollfd){outlet_may(&d->outlets[i]) ? d->outlets[i].fd : -1, POLLIN, 0};
+    in[OUTLETS] = (struct pollfd){d->input_over ? -1 : STDIN_FILENO, POLLIN, 0};
+    if (poll(in, OUTLETS + 1, LIGHTS_MS) <= 0 || !in[OUTLETS].revents)
         return;
     n = read(STDIN_FILENO, bytes, sizeof bytes);
-    over = n <= 0;
+    d->input_over = n == 0 || (n < 0 && errno != EINTR && errno != EAGAIN);
     for (i = 0; i < n; i++)
-        key(s, p, bytes[i]);
+        key(d, bytes[i]);
+}
+
+/* ---- the script */
+
+static bool is_lit(const desk *d, uint32_t icon)
+{
+    return icon == 11 ? d->face.carrier : icon == d->face.icon;
+}
+
+/* Whether a later icon is lit, and nothing that was typed may still change that. Carrier and no icon at all may come at
+ * any time. */
+static bool has_passed(const desk *d, uint32_t icon, uint64_t now)
+{
+    return icon > 0 && icon < d->face.icon && now - d->typed.at > ms(PASSED_MS);
+}
+
+static bool waits(desk *d, uint64_t now)
+{
+    script *k = &d->keys;
+
+    if (k->wait_until > now)
+        return true;
+    if (!k->waits_for_icon || is_lit(d, k->wait_icon))
+        return false;
+    if (!has_passed(d, k->wait_icon, now))
+        return true;
+    tell_operator(d, "\"%.60s\", line %d: icon %u has passed", d->opt.keys, k->steps[k->next - 1].line, k->wait_icon);
+    return false;
+}
+
+static void set_buffer(desk *d, uint32_t frames)
+{
+    if (!d->buffer)
+        d->buffer = __atomic_load_n(&d->s.buffer, __ATOMIC_RELAXED);
+    if (d->s.client && jack_set_buffer_size(d->s.client, frames) != 0)
+        tell_operator(d, "the server does not take buffers of %u", frames);
+}
+
+static void run_script(desk *d)
+{
+    script *k = &d->keys;
+    uint64_t now = clock_ns();
+
+    while (k->next < k->count && !stop && !waits(d, now)) {
+        const script_step *step = &k->steps[k->next++];
+
+        k->waits_for_icon = false;
+        switch (step->kind) {
+        case STEP_TYPE:
+            text(d, step->text);
+            hand_in(d, KEY_BYTE, '\r');
+            break;
+        case STEP_KEYS:
+            text(d, step->text);
+            break;
+        case STEP_CARRIER:
+            hand_in(d, KEY_CARRIER_TURNED, 0);
+            break;
+        case STEP_HANGUP:
+            hand_in(d, KEY_HANGUP, 0);
+            break;
+        case STEP_WAIT:
+            k->wait_until = now + step->ns;
+            break;
+        case STEP_UNTIL:
+            k->waits_for_icon = true;
+            k->wait_icon = step->number;
+            break;
+        case STEP_BUFFER:
+            set_buffer(d, step->number);
+            break;
+        case STEP_END:
+            stop = 1;
+            break;
+        }
+    }
 }
 
 /* ---- what happened, once it is heard */
@@ -172,72 +308,175 @@ static uint32_t total(const gibbonplate_set *call)
     return gibbonplate_total_samples(digits, count, gibbonplate_rate(call));
 }
 
-static void heard(desk *d, panel *p, const show_event *e, uint64_t lit)
+static void tell_outlets(desk *d)
 {
-    char said[64] = "", pressed[8] = "-";
+    int i;
+
+    d->change.face = d->face;
+    d->change.all = d->all;
+    d->all = false;
+    for (i = OUTLETS - 1; i >= 0; i--) /* cues first: a desk waits for them */
+        outlet_tell(&d->outlets[i], &d->change);
+}
+
+/* The set's reply to a byte or to time that passed. */
+static void reply_text(const show_event *e, char *text, size_t room)
+{
     size_t at = 0;
     int i;
 
+    text[0] = 0;
     for (i = 0; i < 2 && e->answer.codes[i]; i++) {
         uint8_t reply[GIBBONPLATE_MAX_REPLY];
         size_t n = gibbonplate_write_reply(e->answer.codes[i], gibbonplate_s12(&e->set), reply, sizeof reply);
 
-        at += (size_t)snprintf(said + at, sizeof said - at, "%s%.*s", i ? ", " : "", (int)n, (const char *)reply);
+        at += (size_t)snprintf(text + at, room - at, "%s%.*s", i ? ", " : "", (int)n, (const char *)reply);
     }
-    if (e->refusal == GIBBONPLATE_QUEUE_FULL)
-        snprintf(said, sizeof said, "256 bytes wait: what is typed now is not sent");
+}
+
+/* What the show itself says of it. */
+static void note_text(const show_event *e, char *text, size_t room)
+{
+    text[0] = 0;
+    if (e->hung_up && e->fresh)
+        snprintf(text, room, "hung up: a fresh set");
+    else if (e->fresh)
+        snprintf(text, room,
+                 e->refusal ? "the rate is now %u, not 8000 to 192000: silence" : "the rate is now %u: a fresh set",
+                 e->rate);
+    else if (e->refusal == GIBBONPLATE_QUEUE_FULL)
+        snprintf(text, room, "256 bytes wait: what is typed now is not sent");
     else if (e->refusal)
-        snprintf(said, sizeof said, "declined with %u", e->refusal);
-    if (e->fresh) {
-        snprintf(said, sizeof said, e->refusal ? "the rate is now %u, not 8000 to 192000: silence" : "the rate is now %u: a fresh set", e->rate);
-        p->total = 0;
-    }
-    if (said[0])
-        panel_say(p, said);
+        snprintf(text, room, "declined with %u", e->refusal);
+}
+
+static void update_face(show_face *f, const show_event *e)
+{
+    if (e->fresh)
+        f->total = 0;
     if (gibbonplate_state(&e->set) == GIBBONPLATE_DIALLING && gibbonplate_m(&e->set) == 0)
-        p->total = total(&e->set);
-    p->icon = show_icon(&e->set);
-    p->key[0] = e->key[0];
-    p->key[1] = e->key[1];
-    p->carrier = e->carrier;
-    p->mode = gibbonplate_mode(&e->set);
-    if (e->key[0] != GIBBONPLATE_NO_KEY)
-        snprintf(pressed, sizeof pressed, "%u%u", e->key[0], e->key[1]);
-    if (d->log)
-        fprintf(d->log, "%llu,%llu,%u,%u,%u,%s,%s\n", (unsigned long long)e->frame, (unsigned long long)lit, p->icon,
-                gibbonplate_state(&e->set), e->carrier, pressed, said);
+        f->total = total(&e->set);
+    f->icon = show_icon(&e->set);
+    memcpy(f->key, e->key, sizeof f->key);
+    f->carrier = e->carrier;
+    f->mode = gibbonplate_mode(&e->set);
+    f->state = gibbonplate_state(&e->set);
+}
+
+/* Shows, tells and writes down an event. `since` is how many frames ago it was heard. */
+static void heard(desk *d, const show_event *e, int32_t since)
+{
+    char reply[SHOW_REPLY], note[SHOW_REPLY], line[SHOW_LINE] = "", all[2 * SHOW_TEXT];
+    typing *t = &d->typed;
+    uint8_t mode = d->face.mode;
+
+    reply_text(e, reply, sizeof reply);
+    note_text(e, note, sizeof note);
+    if (e->line && reply[0])
+        typed_line(t, e->typed, line, sizeof line);
+    if (reply[0])
+        add_reply(&d->face, e->hung_up ? "hang up" : line, reply);
+    if (note[0])
+        add_reply(&d->face, "", note);
+    update_face(&d->face, e);
+    if (d->face.mode != mode || e->fresh || e->hung_up) {
+        t->mode = e->typed;
+        if ((int32_t)(e->typed - t->from) > 0)
+            t->from = e->typed;
+        show_typing(d);
+    }
+    d->change.number++;
+    d->change.frame = e->frame;
+    d->change.heard_us =
+        clock_ns() / 1000 - (uint64_t)((int64_t)since * 1000000 / d->s.rate); /* the server has a clock of its own */
+    d->change.beat = false;
+    tell_outlets(d);
+    typed_text(t, t->logged, e->typed, false, all, sizeof all);
+    t->logged = e->typed;
+    log_row(&d->log, &(book_row){e, &d->face, e->frame + (uint64_t)(int64_t)since, all, reply, note});
+}
+
+static const show_event *next_event(desk *d)
+{
+    return d->count ? &d->pending[d->first] : NULL;
+}
+
+static void drop_event(desk *d)
+{
+    d->first = (d->first + 1) % PENDING;
+    d->count--;
+}
+
+static void fetch_events(desk *d)
+{
+    while (d->count < PENDING && jack_ringbuffer_read_space(d->s.events) >= sizeof(show_event)) {
+        jack_ringbuffer_read(d->s.events, (char *)&d->pending[(d->first + d->count) % PENDING], sizeof(show_event));
+        d->count++;
+    }
 }
 
 /* Lights what is heard by now. */
-static bool lights(desk *d, show *s, panel *p)
+static bool light(desk *d)
 {
     jack_latency_range_t latency;
     jack_nframes_t now;
     bool changed = false;
+    const show_event *e;
 
-    while (d->count < PENDING && jack_ringbuffer_read_space(s->events) >= sizeof(show_event)) {
-        jack_ringbuffer_read(s->events, (char *)&d->pending[(d->first + d->count) % PENDING], sizeof(show_event));
-        d->count++;
-    }
-    if (d->count == 0)
+    fetch_events(d);
+    if (!d->count || !d->s.client)
         return false;
-    jack_port_get_latency_range(s->port, JackPlaybackLatency, &latency);
-    now = jack_frame_time(s->client) - latency.max;
-    while (d->count > 0) {
-        const show_event *e = &d->pending[d->first];
-        int32_t since = (int32_t)(now - e->time);
-
-        if (since < 0)
-            break;
-        heard(d, p, e, e->frame + (uint64_t)since);
-        d->first = (d->first + 1) % PENDING;
-        d->count--;
+    jack_port_get_latency_range(d->s.port, JackPlaybackLatency, &latency);
+    now = jack_frame_time(d->s.client) - latency.max;
+    while ((e = next_event(d)) && (int32_t)(now - e->time) >= 0) {
+        heard(d, e, (int32_t)(now - e->time));
+        drop_event(d);
         changed = true;
     }
     return changed;
 }
 
-/* ---- the program */
+/* The figures that change without an event. Where the server asks for no samples, no light is true. */
+static void read_figures(desk *d, uint64_t now)
+{
+    show_face *f = &d->face;
+    uint64_t frame = __atomic_load_n(&d->s.frame, __ATOMIC_RELAXED);
+
+    if (frame != d->frame_seen || !d->frame_at) {
+        d->frame_seen = frame;
+        d->frame_at = now;
+    }
+    f->sounding = !d->away && now - d->frame_at < ms(SILENT_MS);
+    f->rate = d->s.rate;
+    f->buffer = __atomic_load_n(&d->s.buffer, __ATOMIC_RELAXED);
+    f->m = __atomic_load_n(&d->s.m, __ATOMIC_RELAXED);
+    f->late = __atomic_load_n(&d->s.late, __ATOMIC_RELAXED);
+    f->lost = __atomic_load_n(&d->s.lost, __ATOMIC_RELAXED);
+}
+
+/* What the operator has to know now; the worst alone. */
+static void read_notice(desk *d)
+{
+    const char *say = d->away               ? "the JACK server has ended; it is joined again when it comes back"
+                      : d->take.failed[0]   ? d->take.failed
+                      : d->log.failed[0]    ? d->log.failed
+                      : d->s.beside_another ? "another show plays on this server"
+                                            : "";
+
+    if (strcmp(d->face.notice, say) == 0)
+        return;
+    snprintf(d->face.notice, sizeof d->face.notice, "%s", say);
+    if (say[0])
+        tell_operator(d, "%s", say);
+}
+
+static void beat(desk *d)
+{
+    d->change.beat = true;
+    tell_outlets(d);
+}
+
+/* ---- the server */
 
 /* The lights come in time where the server runs in real time: this thread then does too, below the callback. */
 static void in_time(show *s)
@@ -246,115 +485,191 @@ static void in_time(show *s)
         jack_acquire_real_time_scheduling(pthread_self(), jack_client_real_time_priority(s->client) - 1);
 }
 
-static bool connect_out(desk *d, show *s)
+static bool connect_out(desk *d)
 {
-    const char **ports;
+    const char **ports, *own = jack_port_name(d->s.port);
     int i;
 
-    if (d->to) {
-        if (jack_connect(s->client, jack_port_name(s->port), d->to) == 0)
-            return true;
-        fprintf(stderr, "show: it cannot be connected to the port \"%s\"\n", d->to);
-        return false;
-    }
-    ports = jack_get_ports(s->client, NULL, JACK_DEFAULT_AUDIO_TYPE, JackPortIsPhysical | JackPortIsInput);
+    if (d->opt.to)
+        return jack_connect(d->s.client, own, d->opt.to) == 0;
+    ports = jack_get_ports(d->s.client, NULL, JACK_DEFAULT_AUDIO_TYPE, JackPortIsPhysical | JackPortIsInput);
     for (i = 0; ports && ports[i] && i < 2; i++)
-        jack_connect(s->client, jack_port_name(s->port), ports[i]);
+        jack_connect(d->s.client, own, ports[i]);
     jack_free(ports);
     return true;
 }
 
-static FILE *opened(const char *path, const char *how)
+/* Nothing that was told is kept for a server that is not there: it is heard now, or never. */
+static void lose_server(desk *d, uint64_t now)
 {
-    FILE *file = fopen(path, how);
+    const show_event *e;
 
-    if (!file)
-        fprintf(stderr, "show: cannot open \"%s\": %s\n", path, strerror(errno));
-    return file;
+    fetch_events(d);
+    for (; (e = next_event(d)); drop_event(d))
+        heard(d, e, 0);
+    show_leave(&d->s);
+    jack_ringbuffer_read_advance(d->s.keys, jack_ringbuffer_read_space(d->s.keys));
+    d->s.typed = d->typed.count;
+    d->buffer = 0;
+    d->away = true;
+    d->join_at = now + ms(JOIN_MS);
 }
 
-static bool words(desk *d, int argc, char **argv)
+static void join_again(desk *d, uint64_t now)
 {
+    if (now < d->join_at)
+        return;
+    d->join_at = now + ms(JOIN_MS);
+    if (show_join(&d->s, d->opt.server) != NULL)
+        return;
+    d->away = false;
+    tell_operator(d, "a JACK server has come back, at %u samples a second: a fresh set", d->s.rate);
+    if (!connect_out(d))
+        tell_operator(d, "it cannot be connected to the port \"%.60s\"", d->opt.to);
+    in_time(&d->s);
+}
+
+/* ---- the program */
+
+static bool open_all(desk *d)
+{
+    const char *why;
     int i;
 
-    for (i = 1; i < argc; i++) {
-        const char **to = strcmp(argv[i], "--log") == 0      ? &d->log_path
-                          : strcmp(argv[i], "--take") == 0   ? &d->take_path
-                          : strcmp(argv[i], "--keys") == 0   ? &d->keys_path
-                          : strcmp(argv[i], "--server") == 0 ? &d->server
-                          : strcmp(argv[i], "--to") == 0     ? &d->to
-                                                             : NULL;
-        if (!to || i + 1 == argc) {
-            fputs("show: it takes --log FILE, --take FILE, --keys FILE, --server NAME and --to PORT\n", stderr);
+    d->face.mode = 'C';
+    d->face.key[0] = d->face.key[1] = SHOW_NO_KEY;
+    if (d->opt.log && !book_open(&d->log, d->opt.log))
+        return false;
+    if (d->opt.take && !book_open(&d->take, d->opt.take))
+        return false;
+    if (d->opt.keys && !script_read(&d->keys, d->opt.keys))
+        return false;
+    for (i = 0; i < OUTLETS; i++)
+        if (!outlet_open(&d->outlets[i]))
             return false;
-        }
-        *to = argv[++i];
+    take_header(&d->take, 0, 0);
+    why = show_open(&d->s, d->opt.take != NULL) ? show_join(&d->s, d->opt.server) : "there is no memory for its rings";
+    if (why) {
+        fprintf(stderr, "show: %s\n", why);
+        return false;
     }
-    return (!d->log_path || (d->log = opened(d->log_path, "w"))) && (!d->take_path || (d->take = opened(d->take_path, "wb"))) &&
-           (!d->keys_path || (d->keys = opened(d->keys_path, "r")));
+    if (!connect_out(d)) {
+        fprintf(stderr, "show: it cannot be connected to the port \"%s\"\n", d->opt.to);
+        return false;
+    }
+    return true;
+}
+
+static bool close_all(desk *d)
+{
+    bool good = !d->away;
+    char typed[2 * SHOW_TEXT];
+    int i;
+
+    if (d->s.client && d->face.sounding) {
+        if (d->buffer && d->buffer != d->s.buffer)
+            jack_set_buffer_size(d->s.client, d->buffer);
+        jack_deactivate(d->s.client);
+    }
+    if (d->away)
+        fputs("show: the JACK server has ended\n", stderr);
+    take_record(&d->take, &d->s, &d->taken);
+    take_header(&d->take, d->s.rate, d->taken);
+    typed_text(&d->typed, d->typed.logged, d->typed.count, false, typed, sizeof typed);
+    log_end(&d->log, &d->s, typed);
+    good &= book_close(&d->log);
+    good &= book_close(&d->take);
+    for (i = 0; i < OUTLETS; i++)
+        outlet_close(&d->outlets[i]);
+    script_free(&d->keys);
+    show_close(&d->s);
+    return good;
+}
+
+static void run(desk *d)
+{
+    uint64_t drawn = 0, beaten = 0;
+
+    while (!stop) {
+        show_typed typed;
+        uint64_t now;
+        bool changed;
+        int i;
+
+        listen_to_keys(d);
+        run_script(d);
+        now = clock_ns();
+        for (i = 0; i < OUTLETS; i++)
+            while (outlet_typed(&d->outlets[i], &typed, now))
+                from_outlet(d, &typed);
+        if (__atomic_load_n(&d->s.ended, __ATOMIC_RELAXED) && !d->away)
+            lose_server(d, now);
+        if (d->away)
+            join_again(d, now);
+        take_record(&d->take, &d->s, &d->taken);
+        read_figures(d, now);
+        read_notice(d);
+        changed = light(d);
+        if (changed || now - drawn > ms(DRAW_MS)) {
+            panel_draw(&d->face);
+            drawn = now;
+        }
+        if (now - beaten > ms(BEAT_MS)) {
+            beat(d);
+            beaten = now;
+        }
+    }
+}
+
+static void handle_signals(void)
+{
+    struct sigaction act = {.sa_handler = stopped}, late = {.sa_handler = ended_late};
+
+    sigaction(SIGINT, &act, NULL);
+    sigaction(SIGTERM, &act, NULL);
+    sigaction(SIGHUP, &act, NULL);
+    sigaction(SIGALRM, &late, NULL);
+    signal(SIGPIPE, SIG_IGN);
+}
+
+static outlet outlet_of(const char *name, const char *needs, int priority, const option_words *words)
+{
+    outlet o = {.name = name, .needs = needs, .priority = priority, .count = words->count, .fd = -1};
+
+    memcpy(o.words, words->words, words->count * sizeof *o.words);
+    return o;
 }
 
 int main(int argc, char **argv)
 {
     static desk d;
-    static show s;
-    panel p = {0};
-    uint64_t drawn = 0;
-    struct sigaction act = {0};
+    bool good;
 
-    if (!words(&d, argc, argv))
+    if (!options_read(&d.opt, argc, argv))
         return 1;
+    if (d.opt.plan)
+        return plan_print(d.opt.plan, d.opt.rate) ? 0 : 1;
+    d.outlets[0] = outlet_of("show-web", "libwebsockets-dev", 0, &d.opt.web);
+    d.outlets[1] = outlet_of("show-osc-in", "liblo-dev", 0, &d.opt.osc_in);
+    d.outlets[2] = outlet_of("show-osc", "liblo-dev", 20, &d.opt.osc);
+    if (d.opt.check_sheet) {
+        outlet checker = {.name = "show-sheet", .needs = "libexpat1-dev"};
+        char *words[] = {"show-sheet", (char *)d.opt.check_sheet, NULL};
+
+        outlet_become(&checker, words);
+        return 1;
+    }
     panel_guard();
-    act.sa_handler = stopped;
-    sigaction(SIGINT, &act, NULL);
-    sigaction(SIGTERM, &act, NULL);
-    sigaction(SIGHUP, &act, NULL);
-    if (d.take)
-        wav_header(d.take, 0, 0);
-    if (!show_open(&s, d.server, d.take != NULL))
-        return 1;
-    if (!connect_out(&d, &s)) {
-        show_close(&s);
-        return 1;
+    handle_signals();
+    good = open_all(&d);
+    if (good) {
+        in_time(&d.s);
+        panel_start(d.outlets[0].said);
+        if (d.outlets[0].said[0] && !isatty(STDOUT_FILENO))
+            fprintf(stderr, "show: the panel is at %s\n", d.outlets[0].said);
+        log_header(&d.log);
+        run(&d);
     }
-    in_time(&s);
-    p.mode = 'C';
-    p.key[0] = p.key[1] = GIBBONPLATE_NO_KEY;
-    panel_start(&p);
-    if (d.log)
-        fprintf(d.log, "frame,lit,icon,state,carrier,key,reply\n");
-    while (!stop && !__atomic_load_n(&s.ended, __ATOMIC_RELAXED)) {
-        bool changed;
-
-        at_terminal(&s, &p, LIGHTS_MS);
-        scripted(&d, &s, &p);
-        record(&d, &s);
-        changed = lights(&d, &s, &p);
-        p.rate = s.rate;
-        p.buffer = __atomic_load_n(&s.buffer, __ATOMIC_RELAXED);
-        p.m = __atomic_load_n(&s.m, __ATOMIC_RELAXED);
-        p.late = __atomic_load_n(&s.late, __ATOMIC_RELAXED);
-        if (changed || clock_ns() - drawn > 50000000) {
-            panel_draw(&p);
-            drawn = clock_ns();
-        }
-    }
-    if (s.ended) {
-        fputs("show: the JACK server has ended\n", stderr);
-        d.status = 1;
-    } else {
-        jack_deactivate(s.client);
-    }
-    record(&d, &s);
-    if (d.take) {
-        rewind(d.take);
-        wav_header(d.take, s.rate, d.taken);
-    }
-    if (d.log)
-        fprintf(d.log, "# rate %u, callbacks %llu, mean %.1f us, worst %.1f us, late %u, lost %u\n", s.rate, (unsigned long long)s.calls,
-                s.calls ? (double)s.total_ns / (double)s.calls / 1e3 : 0.0, (double)s.worst_ns / 1e3, s.late, s.lost);
-    show_close(&s);
-    finish(&d, d.log, d.log_path);
-    finish(&d, d.take, d.take_path);
-    return d.status;
+    alarm(END_S);
+    return close_all(&d) && good ? 0 : 1;
 }

@@ -340,6 +340,24 @@ static void refusals(void)
     CHECK(gibbonplate_process_out(&set, samples, 2, key) == 0 && samples[0] == 0 && samples[1] > 0 && unlit());
     CHECK(gibbonplate_m(&set) == gibbonplate_m(&was) && gibbonplate_stage(&set) == 0);
 
+    /* in range is taken, also where no calls lead there */
+    CHECK(gibbonplate_new(&was, 8000) == 0);
+    for (i = 4999999; i <= 5000001; i++) {
+        gibbonplate_set over = was;
+        over.counts[1] = (uint32_t)i;
+        CHECK(gibbonplate_m(&over) == (uint32_t)i);
+        if (i > 5000000)
+            declined_with_6(over);
+        else
+            CHECK(gibbonplate_process_out(&over, samples, 1, key) == 0 && gibbonplate_force_data_mode(&over) == 0);
+    }
+
+    /* the stage is the last sample's, and after an empty fill the next one's */
+    type(&was, "ATDT12\r");
+    CHECK(gibbonplate_stage(&was) == 0 && gibbonplate_process_out(&was, samples, 400, key) == 0 && gibbonplate_stage(&was) == 1);
+    CHECK(gibbonplate_process_out(&was, NULL, 0, key) == 0 && gibbonplate_stage(&was) == 2 && gibbonplate_m(&was) == 400);
+    CHECK(gibbonplate_process_out(&was, samples, 1, key) == 0 && gibbonplate_stage(&was) == 2);
+
     /* 12 */
     for (i = 0; i < 256; i++)
         CHECK(gibbonplate_queue_byte(&set, (uint8_t)i) == 0);
