@@ -20,7 +20,7 @@
 enum { A_SECOND = 100, AT_ONCE = 20 };
 
 static const uint64_t MS = 1000000, FIRST_WAIT = 250 * MS, LONGEST_WAIT = 8000 * MS, STEADY = 10000 * MS;
-enum { READY_MS = 5000, END_MS = 500 };
+enum { READY_MS = 30000, END_MS = 500 };
 
 extern char **environ;
 
@@ -88,7 +88,7 @@ static int spawn(outlet *o, const char *path, const char **argv, int end, int pr
 static bool start(outlet *o)
 {
     char path[4096];
-    const char *argv[sizeof o->words / sizeof *o->words + 1] = {o->name};
+    const char *argv[sizeof o->words / sizeof *o->words + 2] = {o->name}; /* and a null behind them */
     int ends[2], failed;
 
     if (!beside(o, path, sizeof path))
@@ -127,6 +127,8 @@ bool outlet_open(outlet *o)
         snprintf(o->said, sizeof o->said, "%.*s", (int)first.len, (const char *)first.bytes);
         return true;
     }
+    if (o->fd >= 0 && recv(o->fd, &first, sizeof first, MSG_DONTWAIT) < 0) /* it has not ended, and so has not said why */
+        fprintf(stderr, "show: %s is not ready after %d s\n", o->name, READY_MS / 1000);
     outlet_close(o);
     return false;
 }

@@ -174,7 +174,7 @@ static void tell_touch(reading *r, const char *does, const char *text)
         fputs("; ", r->touched);
     else
         fprintf(r->touched, "%s%ld %s ", r->touches ? "\n" : "", (long)XML_GetCurrentByteIndex(r->parser),
-                r->id ? r->id : "-");
+                r->id && r->id[0] && !strpbrk(r->id, " \t\r\n") ? r->id : "-");
     fprintf(r->touched, *text ? "%s %s" : "%s", does, text);
     r->touches += !r->touch;
     r->touch = true;
@@ -368,11 +368,9 @@ static void XMLCALL begin_element(void *with, const char *name, const char **pai
 
 static void list_lacking(const reading *r, FILE *to)
 {
-    int i, icons = 0, keys = 0;
+    int i, keys = 0;
     const char *before = "the sheet lacks ";
 
-    for (i = 1; i <= 11; i++)
-        icons += r->icons[i];
     for (i = 0; i < 16; i++)
         keys += r->keys[i];
     for (i = 1; i <= 11; i++)

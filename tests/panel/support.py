@@ -20,11 +20,21 @@ ROOT = pathlib.Path(__file__).resolve().parents[2]
 OUT = ROOT / "target" / "panel"
 OUTLETS = ("show-web", "show-osc", "show-osc-in")
 DEBIAN = "/usr/bin/python3"
+# A proxy is for what is elsewhere, and all here is on this machine.
+for word in ("http_proxy", "https_proxy", "all_proxy"):
+    os.environ.pop(word, None)
+    os.environ.pop(word.upper(), None)
 PATIENCE = 30  # seconds: after them what is waited for does not come
 
 
 class PassedOver(Exception):
     """Something is missing here to try it with."""
+
+
+def passed_over(why):
+    """Says so. The status: what was found before that stands."""
+    print("passed over: %s" % why, flush=True)
+    return 1 if Judge.all_faults else 3
 
 
 # ---- what is tried
@@ -71,12 +81,15 @@ def build(tree, into, how):
 class Judge:
     """Says of each thing whether it is as it should be."""
 
+    all_faults = 0
+
     def __init__(self):
         self.faults = 0
 
     def expect(self, what, so, said=""):
         if not so:
             self.faults += 1
+            Judge.all_faults += 1
         print("%s  %s%s" % ("as it should be" if so else "NOT AS IT SHOULD BE", what, "" if so or said == "" else ": %s" % (said,)), flush=True)
         return bool(so)
 
@@ -107,8 +120,11 @@ class Jack:
 
     def __init__(self, rate=48000, frames=256):
         for number in range(100):
-            self.name = "gibbonplate-panel-%d" % number
-            self.lock = open(os.path.join(tempfile.gettempdir(), self.name + ".lock"), "w")
+            self.name = "gibbonplate-panel-%d-%d" % (os.getuid(), number)
+            try:
+                self.lock = open(os.path.join(tempfile.gettempdir(), self.name + ".lock"), "w")
+            except OSError as why:
+                raise PassedOver("no server's name can be held: %s" % why) from None
             try:
                 fcntl.flock(self.lock, fcntl.LOCK_EX | fcntl.LOCK_NB)
                 break
@@ -389,6 +405,7 @@ new MutationObserver(() => { if (now() !== lit[lit.length - 1]) lit.push(now());
 class Browser:
     def __init__(self, width=1280, height=943):
         from selenium import webdriver
+        from selenium.common.exceptions import WebDriverException
         from selenium.webdriver.chrome.service import Service
         options = webdriver.ChromeOptions()
         options.binary_location = shutil.which("chromium")
@@ -397,7 +414,10 @@ class Browser:
                      "--disable-backgrounding-occluded-windows", "--disable-renderer-backgrounding"):
             options.add_argument(word)
         options.set_capability("goog:loggingPrefs", {"browser": "ALL"})
-        self.driver = webdriver.Chrome(service=Service(shutil.which("chromedriver")), options=options)
+        try:
+            self.driver = webdriver.Chrome(service=Service(shutil.which("chromedriver")), options=options)
+        except WebDriverException as why:
+            raise PassedOver("no Chromium starts here: %s" % str(why).strip().splitlines()[0]) from None
 
     def __enter__(self):
         return self
@@ -429,6 +449,11 @@ class Browser:
 
     def is_lit(self, name):
         return until(lambda: name in self.lit())
+
+    def was_lit(self, name):
+        """Whether it was lit since WATCH was run, be it for a moment; told, and not judged, for it may be shorter than a busy
+        machine's pause."""
+        return until(lambda: self.run("return lit.some(state => state.split(' ').includes(arguments[0]))", name), 5)
 
     def text(self, name):
         return self.run("return document.getElementById('sheet').shadowRoot.getElementById(arguments[0])?.textContent", name)
