@@ -1,4 +1,4 @@
-.PHONY: rt call show cues deps test gate oracle listen bench edits c stage
+.PHONY: rt call show cues deps test .gate oracle listen bench edits c stage
 
 # Rattle's toolchain, by which every program here is proved and built.
 rt:
@@ -27,10 +27,10 @@ deps:
 	tools/deps --install
 
 # The gate. Where it fails, make's own last words are the gate's, which say what failed and how to run it alone.
-test: gate
+test: .gate
 	$(if $(shell cat target/gate/failed 2>/dev/null),$(error $(shell cat target/gate/failed)))
 
-gate: rt
+.gate: rt
 	@bash .ci/run || [ -s target/gate/failed ] || { mkdir -p target/gate && echo "gate: FAILED: it was broken off; alone: bash .ci/run" >target/gate/failed; }
 
 # The Rust with 01's stand-ins, at target/oracle/oracle.

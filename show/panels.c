@@ -15,10 +15,34 @@
 
 /* ---- the face, for a browser */
 
+/* How many bytes the letter of UTF-8 at the front has; 0 where none is whole. */
+static size_t letter(const char *text)
+{
+    const unsigned char *b = (const unsigned char *)text;
+    size_t i, n = b[0] < 0x80 ? 1 : b[0] < 0xC2 ? 0 : b[0] < 0xE0 ? 2 : b[0] < 0xF0 ? 3 : b[0] < 0xF5 ? 4 : 0;
+
+    for (i = 1; i < n; i++)
+        if ((b[i] & 0xC0) != 0x80)
+            return 0;
+    if ((b[0] == 0xE0 && b[1] < 0xA0) || (b[0] == 0xED && b[1] > 0x9F) || (b[0] == 0xF0 && b[1] < 0x90) ||
+        (b[0] == 0xF4 && b[1] > 0x8F))
+        return 0;
+    return n;
+}
+
+/* A browser closes at a text that is no UTF-8, as one is that was cut inside a letter: a question mark stands there. */
 static void put_text(FILE *to, const char *before, const char *text)
 {
     fprintf(to, "%s\"", before);
-    sheet_put_json(to, text, strlen(text));
+    while (*text) {
+        size_t n = letter(text);
+
+        if (n > 0)
+            sheet_put_json(to, text, n);
+        else
+            fputc('?', to);
+        text += n > 0 ? n : 1;
+    }
     fputc('"', to);
 }
 

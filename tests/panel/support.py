@@ -150,7 +150,10 @@ class Jack:
         return until(lambda: self.answers() or self.process.poll() is not None) and self.process.poll() is None
 
     def answers(self):
-        return subprocess.run(["jack_wait", "-s", self.name, "-c"], capture_output=True, text=True).stdout.startswith("running")
+        try:  # it hangs at a server that died as it started
+            return subprocess.run(["jack_wait", "-s", self.name, "-c"], capture_output=True, text=True, timeout=10).stdout.startswith("running")
+        except subprocess.TimeoutExpired:
+            return False
 
     def __enter__(self):
         return self
