@@ -28,12 +28,14 @@ impl Program for Desk {
         b"bill"
     }
 
-    fn take(&mut self, byte: u8, answers: &mut Answers) {
+    fn take(&mut self, byte: u8, answers: &mut Answers) -> bool {
         if byte == b'\n' {
             page::put_answer(answers, self.line.asked());
             self.line = Line::new();
+            true
         } else {
             self.line.push(byte);
+            false
         }
     }
 

@@ -24,14 +24,14 @@ fn main(rt: HostRuntime) {
     }
     if has_word(&rt, 3) && !has_word(&rt, 5) {
         if let Err(wrong) = with_words(&rt, &errors) {
-            words::say(&errors, "call", &wrong);
+            wrong.say(&errors, b"call");
         }
         return;
     }
     words::say(
         &errors,
-        "call",
-        &"it takes DIGITS RATE FILE or DIGITS RATE FILE TEXT, or nothing for 5551234 48000 call.wav",
+        b"call",
+        b"it takes DIGITS RATE FILE or DIGITS RATE FILE TEXT, or nothing for 5551234 48000 call.wav",
     );
 }
 
@@ -56,7 +56,7 @@ fn target<'a, R, E>(rt: &'a R, errors: &'a E, path: &'a [u8]) -> Target<'a, R, E
     Target {
         rt,
         errors,
-        program: "call",
+        program: b"call",
         path,
     }
 }

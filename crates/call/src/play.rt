@@ -54,8 +54,7 @@ pub fn record(
     samples: &mut [f32],
 ) -> io::Result<()> {
     let mut bytes = Page::<16384>::new();
-    let header = samples::wav::header::<f32>(total, set.rate());
-    file.write_all(header.text())?;
+    file.write_all(&samples::wav::header(total, set.rate()))?;
     let mut talk = Talk::new(set, message);
     let mut left = total;
     // A proved loop has to end: no call has as many fills as this one allows.
@@ -85,6 +84,6 @@ pub fn at_most(length: usize, most: u32) -> u32
 
 fn write(file: &mut impl Write, samples: &[f32], bytes: &mut Page<16384>) -> io::Result<()> {
     bytes.clear();
-    samples::put_samples(bytes, samples);
+    samples::page::put_samples(bytes, samples);
     file.write_all(bytes.text())
 }

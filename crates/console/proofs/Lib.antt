@@ -1,4 +1,5 @@
 -- What the functions' proofs cite.
+pub mod Held
 pub mod Reading
 pub mod Parsed
 pub mod Examples

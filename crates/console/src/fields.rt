@@ -20,10 +20,10 @@ pub enum Place {
 }
 
 // What the bytes of a line so far come to: a letter, where the line has one, and at most N numbers.
-#[derive(Drop)]
+#[derive(Clone, Copy)]
 pub struct Fields<const N: usize> {
     letter: Option<u8>,
-    // The first of them are the line's, each None where it is beyond 64 bits.
+    // The first of them are the line's, each None where it is beyond 64 bits; the others are None.
     numbers: [Option<u64>; N],
     count: usize,
     // None where the line is none, whatever follows.
@@ -31,15 +31,20 @@ pub struct Fields<const N: usize> {
 }
 
 impl<const N: usize> Model for Fields<N> {
-    ghost use Rattle.std.specs.Prelude.{◌≡◌, ◌≤◌, ◌<◌, take, Some};
+    ghost use Rattle.std.specs.Prelude.{◌≡◌, ◌≤◌, ◌<◌, ◌-◌, ◌++◌, length, take, drop, replicate, Some, None};
     ghost use Rattle.console.specs.Fields.{Read};
     ghost use Rattle.console.specs.declared.fields.Place.TheVariants.{Digit};
+    ghost use Rattle.console.specs.Held.{given_back};
 
     ghost Value = { Read };
 
     ghost view = { λ f. record { letter = f.letter; numbers = take f.count f.numbers; place = f.place } };
 
-    ghost invariant = { λ f. (f.count ≤ N) × (f.place ≡ Some Digit → 0 < f.count) };
+    ghost invariant = { λ f. (f.count ≤ N) × (f.place ≡ Some Digit → 0 < f.count) × (length f.numbers ≡ N) × (drop f.count f.numbers ≡ replicate (N - f.count) None) };
+
+    ghost inverse = { λ r. record { letter = r.letter; numbers = r.numbers ++ replicate (N - length r.numbers) None; count = length r.numbers; place = r.place } };
+
+    ghost inverse_ok = { λ f h. given_back (λ ns count. record { letter = f.letter; numbers = ns; count = count; place = f.place }) N f.count f.numbers h.0 h.2 h.3 };
 }
 
 impl<const N: usize> Fields<N> {
@@ -68,6 +73,7 @@ impl<const N: usize> Fields<N> {
     }
 
     // One byte more, which is no line feed.
+    #[inline(always)]
     #[tactic(auto, unfolding(crate::specs::Fields::pushed, crate::specs::Fields::pushed_at))]
     pub fn push(&mut self, byte: u8)
         ensures { self.new ≡ pushed N self.old byte }
@@ -114,9 +120,10 @@ impl<const N: usize> Fields<N> {
     }
 }
 
-// The number with one digit more.
+// The number with one digit more, and none beyond 64 bits.
+#[inline(always)]
 #[tactic(auto, unfolding(crate::specs::Fields::grown, crate::specs::Fields::in_64, crate::specs::Fields::in_64_if))]
-fn grown(number: Option<u64>, digit: u8) -> Option<u64>
+pub fn grown(number: Option<u64>, digit: u8) -> Option<u64>
     ensures { result ≡ grown number digit }
 {
     number?.checked_mul(10)?.checked_add(u64::from(digit))

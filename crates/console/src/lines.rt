@@ -46,7 +46,7 @@ pub enum Call {
 }
 
 // What the bytes of a line so far come to.
-#[derive(Drop)]
+#[derive(Clone, Copy)]
 pub struct Parser {
     // `tap --ext`: an outbox length may follow the carrier flag, fills may be longer, and there are more lines.
     extended: bool,
@@ -88,6 +88,17 @@ impl Parser {
         let (letter, numbers) = self.line.letter_and_numbers()?;
         numbers_call(self.extended, letter, numbers)
     }
+}
+
+// A whole line, without its line feed.
+pub fn call_of(extended: bool, line: &[u8]) -> Option<Call>
+    ensures { result ≡ call_of extended line.now }
+{
+    let mut parser = Parser::new(extended);
+    for byte in line {
+        parser.line.push(*byte);
+    }
+    parser.finish()
 }
 
 // The call of a letter and its numbers.

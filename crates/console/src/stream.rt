@@ -1,5 +1,5 @@
 // The program's own words, input and output, and what it says where one of them fails.
-ghost use Rattle.std.specs.Prelude.{◌≡◌, true, is_err, Ok, MatchResult};
+ghost use Rattle.std.specs.Prelude.{◌≡◌, ◌<◌, true, false, is_err, Ok, MatchResult, MatchOption};
 ghost use Rattle.text.specs.Page.{fresh_page};
 
 use std::env::{Env, FillError};
@@ -56,13 +56,14 @@ pub type Answers = Page<65536>;
 // Once there are more bytes than this, they are written out; those of one line fit into the room that is left.
 const FULL: usize = 60000;
 
-// A program that answers the bytes of its input. No law is asked of it: one answers lines and another bits, each by its own contracts.
+// A program that answers the bytes of its input. Of its answers no law is asked: one answers lines and another bits, each by its own contracts.
 pub trait Program {
     // Its name, which stands in front of what it says on standard error.
     fn name(&self) -> &'static [u8];
 
-    // One byte more.
-    fn take(&mut self, byte: u8, answers: &mut Answers);
+    // One byte more. Whether it may have been answered: where not, no answers are more.
+    fn take(&mut self, byte: u8, answers: &mut Answers) -> bool
+        ensures { result ≡ false → answers.new ≡ answers.old };
 
     // The input ends here.
     fn finish(&mut self, answers: &mut Answers);
@@ -102,21 +103,24 @@ fn answer_all(
     let mut buffer = [0u8; 4096];
     // A proved loop has to end, and nothing says that the input does: no run uses up so many reads.
     for _ in 0..u64::MAX {
-        let count = counted(input.read(&mut buffer))?;
-        if count == 0 {
+        let Some(count) = counted(input.read(&mut buffer))? else {
             break;
-        }
+        };
         take_all(output, program, &buffer[..count], &mut answers)?;
     }
     program.finish(&mut answers);
     write_out(output, &mut answers)
 }
 
-// How many bytes a read gave; one that failed ends the run.
-fn counted(read: io::Result<usize>) -> Result<usize, Failure>
-    ensures { MatchResult result (λ count. read ≡ Ok count) (λ _. is_err read ≡ true) }
+// How many bytes a read gave, and none at the input's end, which ends the run; one that failed ends it too.
+fn counted(read: io::Result<usize>) -> Result<Option<usize>, Failure>
+    ensures { MatchResult result (λ came. MatchOption came (read ≡ Ok 0) (λ count. (0 < count) × (read ≡ Ok count))) (λ _. is_err read ≡ true) }
 {
-    read.map_err(Failure::Input)
+    match read {
+        Ok(0) => Ok(None),
+        Ok(count) => Ok(Some(count)),
+        Err(why) => Err(Failure::Input(why)),
+    }
 }
 
 // The bytes of one read; no answer to them waits for the next.
@@ -129,8 +133,7 @@ fn take_all(
     ensures { answers.new ≡ fresh_page 65536 }
 {
     for byte in bytes {
-        program.take(*byte, answers);
-        if answers.text().len() > FULL {
+        if program.take(*byte, answers) && answers.text().len() > FULL {
             write_out(output, answers)?;
         }
     }

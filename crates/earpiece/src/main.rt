@@ -21,14 +21,14 @@ fn main(rt: HostRuntime) {
     }
     if has_word(&rt, 3) && !has_word(&rt, 4) {
         if let Err(wrong) = with_words(&rt, &errors) {
-            words::say(&errors, "earpiece", &wrong);
+            wrong.say(&errors, b"earpiece");
         }
         return;
     }
     words::say(
         &errors,
-        "earpiece",
-        &"it takes DIGITS RATE FILE, or nothing for 5551234 8000 earpiece.wav",
+        b"earpiece",
+        b"it takes DIGITS RATE FILE, or nothing for 5551234 8000 earpiece.wav",
     );
 }
 
@@ -39,7 +39,7 @@ fn with_words(rt: &(impl Env + Files), errors: &impl Print) -> Result<(), Wrong>
 }
 
 fn write(rt: &impl Files, errors: &impl Print, digits: &[u8], rate: u32, path: &[u8]) {
-    let program = "earpiece";
+    let program = b"earpiece";
     let target = Target {
         rt,
         errors,
@@ -54,14 +54,14 @@ fn record(file: &mut impl Write, digits: &[u8], rate: u32) -> io::Result<()> {
     let mut samples = [0i16; SAMPLES];
     let mut bytes = Page::<8192>::new();
     let total = plan::total_samples(digits, rate);
-    let header = samples::wav::header::<i16>(total, rate);
+    let header = samples::page::header::<i16>(total, rate);
     file.write_all(header.text())?;
     for pass in (0..total).step_by(SAMPLES) {
         let count = SAMPLES.min((total - pass) as usize);
         let part = &mut samples[..count];
         handset::earpiece(digits, rate, u64::from(pass), part).map_err(|_| refused())?;
         bytes.clear();
-        samples::put_samples(&mut bytes, part);
+        samples::page::put_samples(&mut bytes, part);
         file.write_all(bytes.text())?;
     }
     Ok(())

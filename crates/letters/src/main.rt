@@ -26,13 +26,19 @@ impl Program for Letters {
         b"letters"
     }
 
-    // Other characters than 0 and 1 are passed over.
-    fn take(&mut self, byte: u8, answers: &mut Answers) {
-        if matches!(byte, b'0' | b'1') {
-            if let Some(letter) = self.reader.push_bit(byte == b'1') {
-                answers.put_byte(letter);
-            }
+    // Other characters than 0 and 1 are passed over. No bit gives more than one byte, so there is room for it.
+    fn take(&mut self, byte: u8, answers: &mut Answers) -> bool {
+        if !matches!(byte, b'0' | b'1') {
+            return false;
         }
+        let mut letter = [0u8; 1];
+        let reading = self.reader.read(&[byte % 2], &mut letter);
+        self.reader = reading.place;
+        if reading.given == 1 {
+            answers.put(&letter);
+            return true;
+        }
+        false
     }
 
     // A frame that has not ended is no byte.

@@ -28,10 +28,19 @@ use Rattle.deframe.specs.Read.{Read, marks_of, read_of, stopped}
 use Rattle.deframe.specs.Unframe.{unframe_of}
 use Rattle.report.specs.declared.Report.{Report}
 use Rattle.report.specs.Report.{report_line}
+use Rattle.panel.specs.declared.Form.{Form}
+use Rattle.panel.specs.declared.Form.TheVariants as form
 use Rattle.panel.specs.declared.shown.Second.{Second}
 use Rattle.panel.specs.declared.shown.Second.TheVariants as second
 use Rattle.panel.specs.declared.shown.Shown.{Shown}
 use Rattle.panel.specs.declared.shown.Told.{Told}
+
+-- whether each answer has a second line
+abbrev pub has_bits : Form → Bool
+has_bits form.Wall = false
+has_bits form.WallExtended = false
+has_bits form.Tap = true
+has_bits form.Extended = true
 
 -- refusal (0 none), mode C or D, state, stage, m, two codes (0 none)
 abbrev pub report_of : Set → ℕ → Reply → Report

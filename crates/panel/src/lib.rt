@@ -2,11 +2,10 @@
 // the set then shows as a line of text.
 #![tactic(auto)]
 
-ghost use Rattle.std.specs.Prelude.{◌≡◌};
+ghost use Rattle.std.specs.Prelude.{◌≡◌, false};
 ghost use Rattle.deframe.specs.Read.{answer_of};
 ghost use Rattle.text.specs.Page.{add_of};
-ghost use Rattle.panel.specs.declared.Form.TheVariants as form;
-ghost use Rattle.panel.specs.Wall.{read_line, shown_line, kept_line, lit_left, line_of};
+ghost use Rattle.panel.specs.Wall.{read_line, shown_line, kept_line, lit_left, line_of, has_bits};
 
 use console::lines::{Call, Parser};
 use console::stream::{Answers, Program};
@@ -26,10 +25,25 @@ mod shown;
 #[derive(Clone, Copy, PartialEq, Eq)]
 pub enum Form {
     Wall,
+    // with the lines of 02, which no program asks for
+    WallExtended,
     // a second line for each answer
     Tap,
     // `tap --ext`: the lines of 02 too
     Extended,
+}
+
+impl Form {
+    fn is_extended(self) -> bool {
+        matches!(self, Form::WallExtended | Form::Extended)
+    }
+
+    // Whether each answer has a second line.
+    fn has_bits(self) -> bool
+        ensures { result ≡ has_bits self }
+    {
+        matches!(self, Form::Tap | Form::Extended)
+    }
 }
 
 // What stands between two bytes of the input.
@@ -55,14 +69,17 @@ pub fn run(input: &mut impl Read, output: &impl Print, errors: &impl Print, form
 impl Program for Panel {
     fn name(&self) -> &'static [u8] {
         match self.form {
-            Form::Wall => b"wall",
+            Form::Wall | Form::WallExtended => b"wall",
             Form::Tap | Form::Extended => b"tap",
         }
     }
 
-    fn take(&mut self, byte: u8, answers: &mut Answers) {
-        let call = self.parser.push(byte);
-        self.perform(call, answers);
+    fn take(&mut self, byte: u8, answers: &mut Answers) -> bool {
+        let Some(call) = self.parser.push(byte) else {
+            return false;
+        };
+        self.perform(Some(call), answers);
+        true
     }
 
     // A last line may be without its line feed.
@@ -79,7 +96,7 @@ impl Panel {
         Panel {
             form,
             set: made.set,
-            parser: Parser::new(form == Form::Extended),
+            parser: Parser::new(form.is_extended()),
             string: Page::new(),
             reader: Deframer::new(),
             lit: None,
@@ -93,7 +110,7 @@ impl Panel {
         ensures reader_after { self.new.reader ≡ (read_line 1200 self.old.string.text self.old.reader call).place }
         ensures string_after { self.new.string.text ≡ kept_line 300 self.old.string.text call }
         ensures lit_after { self.new.lit ≡ lit_left self.old.lit (shown_line 1200 1200 70000 self.old.string.text (answer_of (read_line 1200 self.old.string.text self.old.reader call)) self.old.set call).told }
-        ensures page_after { self.old.form ≡ form.Wall → answers.new ≡ add_of answers.old (line_of (shown_line 1200 1200 70000 self.old.string.text (answer_of (read_line 1200 self.old.string.text self.old.reader call)) self.old.set call)) }
+        ensures page_after { has_bits self.old.form ≡ false → answers.new ≡ add_of answers.old (line_of (shown_line 1200 1200 70000 self.old.string.text (answer_of (read_line 1200 self.old.string.text self.old.reader call)) self.old.set call)) }
     {
         let Some(call) = call else {
             return;
@@ -117,7 +134,7 @@ impl Panel {
         shown::put_line(answers, shown);
         if let Some(Told { second, .. }) = shown.told {
             self.lit = keep::lit(self.lit, second);
-            if self.form != Form::Wall {
+            if self.form.has_bits() {
                 page::put_bits(
                     answers,
                     self.set,

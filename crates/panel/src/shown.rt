@@ -95,7 +95,7 @@ pub fn put_line(answers: &mut Answers, shown: Shown)
     ensures { answers.new ≡ add_of answers.old (line_of shown) }
 {
     match shown.told {
-        Some(told) => report::put_report(answers, told.report),
+        Some(told) => report::page::put_report(answers, told.report),
         None => {}
     }
 }

@@ -18,20 +18,20 @@ const UNWRITABLE: &str = ": FILE has to be a path that can be written, and ";
 pub struct Target<'a, R, E> {
     pub rt: &'a R,
     pub errors: &'a E,
-    pub program: &'a str,
+    pub program: &'a [u8],
     pub path: &'a [u8],
 }
 
 // A file that is being written.
 #[derive(Drop)]
-enum Recording<F> {
+pub enum Recording<F> {
     InPlace(F),
     // as FILE.part
     Beside(F),
 }
 
 impl<F> Recording<F> {
-    fn file(&mut self) -> &mut F {
+    pub fn file(&mut self) -> &mut F {
         match self {
             Recording::InPlace(file) => file,
             Recording::Beside(file) => file,
@@ -44,7 +44,7 @@ impl<R: Files, E: Print> Target<'_, R, E> {
     pub fn write<W: FnOnce(&mut R::File) -> io::Result<()>>(&self, put: W) -> bool
         requires { W.IsAlwaysCallable put }
     {
-        match self.open() {
+        match self.begin() {
             Some(mut recording) => {
                 let good = put(recording.file());
                 self.finish(recording, good)
@@ -53,8 +53,8 @@ impl<R: Files, E: Print> Target<'_, R, E> {
         }
     }
 
-    // None where it cannot be opened, which has been said.
-    fn open(&self) -> Option<Recording<R::File>> {
+    // Opens the file for writing; none where it cannot be opened, which has been said.
+    pub fn begin(&self) -> Option<Recording<R::File>> {
         if is_link(self.rt, self.path) {
             return self.in_place(open_overwrite(self.rt, self.path));
         }
@@ -108,8 +108,8 @@ impl<R: Files, E: Print> Target<'_, R, E> {
         name
     }
 
-    // `good` says whether all was written, or why not.
-    fn finish(&self, recording: Recording<R::File>, good: io::Result<()>) -> bool {
+    // Ends it, and answers whether it stands in its place: `good` says whether all was written, or why not.
+    pub fn finish(&self, recording: Recording<R::File>, good: io::Result<()>) -> bool {
         match recording {
             Recording::InPlace(_file) => self.written(good),
             Recording::Beside(file) => self.put_in_place(synced(file, good)),
@@ -158,7 +158,7 @@ impl<R: Files, E: Print> Target<'_, R, E> {
     // Says what failed with a path, and the system's word for why.
     fn fail(&self, before: &str, path: &[u8], after: &str, why: io::Error) {
         let mut line = Page::<16640>::new();
-        line.put(self.program.as_bytes());
+        line.put(self.program);
         line.put(before.as_bytes());
         put_quoted(&mut line, path);
         line.put(after.as_bytes());

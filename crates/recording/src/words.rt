@@ -56,10 +56,21 @@ impl fmt::Display for Wrong {
     }
 }
 
+impl Wrong {
+    pub fn say(self, errors: &impl Print, program: &[u8]) {
+        let mut line = Page::<128>::new();
+        let _ = write!(line, "{self}");
+        say(errors, program, line.text());
+    }
+}
+
 // A line of a program's, behind its name.
-pub fn say(errors: &impl Print, program: &str, line: &impl fmt::Display) {
+pub fn say(errors: &impl Print, program: &[u8], line: &[u8]) {
     let mut whole = Page::<128>::new();
-    let _ = writeln!(whole, "{program}: {line}");
+    whole.put(program);
+    whole.put(b": ");
+    whole.put(line);
+    whole.put_byte(b'\n');
     let _ = errors.write_all(whole.text());
 }
 

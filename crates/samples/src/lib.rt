@@ -2,18 +2,18 @@
 #![tactic(auto)]
 
 pub mod fnv;
+pub mod page;
 pub mod wav;
 
-ghost use Rattle.std.specs.Prelude.{◌≡◌, ℕ, List, length, to_bits};
+ghost use Rattle.std.specs.Prelude.{◌≡◌, ◌+◌, ℕ, List, leb, length, to_bits};
 ghost use Rattle.std.specs.Float.{binary32};
 ghost use Rattle.std.specs.List.{flat_map};
 ghost use Rattle.samples.specs.Bytes.{low_first, float_bytes, whole_bytes};
 ghost use Rattle.samples.specs.Wav.{header_of, whole_header_of};
 ghost use Rattle.samples.specs.Laws.{header_by, float_size, whole_size, float_header, whole_header};
-ghost use Rattle.text.specs.Page.{add_of};
+ghost use Rattle.text.specs.Text.{page_of, add_of};
 
 use std::convert::AsSlice;
-use text::Page;
 use wav::{FLOAT, WHOLE};
 
 // A sample as a WAV file of one channel has it.
@@ -95,17 +95,25 @@ impl Sample for i16 {
     }
 }
 
-// Puts the samples' bytes on a page. Where the whole does not fit, nothing is put.
-pub fn put_samples<S: Sample, const N: usize>(page: &mut Page<N>, samples: &[S])
-    ensures { page.new ≡ add_of page.old (flat_map S.bytes samples.now) }
+// Writes the samples' bytes at a place and answers the place after them. Where the whole does not
+// fit, nothing is written and the place stays.
+pub fn put_samples<S: Sample>(out: &mut [u8], at: usize, samples: &[S]) -> usize
+    ensures { page_of out.new result ≡ add_of (page_of out.old at) (flat_map S.bytes samples.now) }
 {
-    let room = N - page.text().len();
-    let fits = samples.len() as u128 * u128::from(S::SIZE) <= room as u128;
-    if fits {
+    let mut place = at;
+    if at <= out.len() && fit(samples, out.len() - at) {
         for sample in samples {
-            page.put(sample.le_bytes().as_slice());
+            place = text::put(out, place, sample.le_bytes().as_slice());
         }
     }
+    place
+}
+
+// Whether the samples' bytes fit into so much room.
+fn fit<S: Sample>(samples: &[S], room: usize) -> bool
+    ensures { result ≡ leb (length (flat_map S.bytes samples.now)) room }
+{
+    samples.len() as u128 * u128::from(S::SIZE) <= room as u128
 }
 
 // The bit pattern of a sample. A NaN, which no sample is, has one pattern here.

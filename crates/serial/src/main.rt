@@ -41,13 +41,15 @@ impl Program for Desk {
         b"serial"
     }
 
-    fn take(&mut self, byte: u8, answers: &mut Answers) {
+    fn take(&mut self, byte: u8, answers: &mut Answers) -> bool {
         if byte == b'\n' {
             let asked = self.line.asked();
             self.perform(asked, answers);
             self.line = Line::new();
+            true
         } else {
             self.line.push(byte);
+            false
         }
     }
 

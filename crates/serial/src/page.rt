@@ -19,7 +19,7 @@ pub fn put_told(
 {
     answers.put_number(refusal::answer_number(&answer) as u64);
     answers.put_number(value as u64);
-    report::put_mode(answers, chip.in_command_mode());
+    report::page::put_mode(answers, chip.in_command_mode());
     answers.put_number(u8::from(chip.state()) as u64);
     answers.put_number(chip.stage() as u64);
     answers.put_number(chip.m() as u64);

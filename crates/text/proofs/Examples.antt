@@ -3,7 +3,8 @@ use mathlib.Core.Path.{◌≡◌, refl}
 use Rattle.ascii.specs.Ascii.{ascii}
 use Rattle.text.specs.Digits.{glyph_of, glyph_if, last_digits, decimal_of, decimal_from, decimal_if}
 use Rattle.text.specs.Seconds.{parts_of, seconds_of, seconds_if}
-use Rattle.text.specs.Page.{add_of, add_if}
+use Rattle.text.specs.Text.{page_of, add_of, add_if}
+use Rattle.text.specs.Page.{add_of as on_page, add_if as on_page_if}
 
 zero_is : decimal_of 0 ≡ ascii "0"
 unfolding decimal_of decimal_from decimal_if glyph_of glyph_if
@@ -30,11 +31,20 @@ no-seconds : seconds_of 4801 0 ≡ ascii ""
 unfolding seconds_of seconds_if
 no-seconds = refl
 
--- a text that fits, and one that does not
-fits-is : add_of (record { room = 3; text = ascii "." }) (ascii "AT") ≡ record { room = 3; text = ascii ".AT" }
+-- a text that fits in a buffer, and one that does not
+fits-is : add_of (page_of (ascii "......") 1) (ascii "AT") ≡ page_of (ascii ".AT...") 3
 unfolding add_of add_if
 fits-is = refl
 
-cut-is : add_of (record { room = 2; text = ascii "." }) (ascii "AT") ≡ record { room = 2; text = ascii "." }
+cut-is : add_of (page_of (ascii "......") 5) (ascii "AT") ≡ page_of (ascii "......") 5
 unfolding add_of add_if
 cut-is = refl
+
+-- and on a page
+page-fits-is : on_page (record { room = 3; text = ascii "." }) (ascii "AT") ≡ record { room = 3; text = ascii ".AT" }
+unfolding on_page on_page_if
+page-fits-is = refl
+
+page-cut-is : on_page (record { room = 2; text = ascii "." }) (ascii "AT") ≡ record { room = 2; text = ascii "." }
+unfolding on_page on_page_if
+page-cut-is = refl

@@ -1,4 +1,5 @@
 -- What the functions' proofs cite.
 pub mod Pages
+pub mod Texts
 pub mod Examples
 mod Hex

@@ -1,7 +1,10 @@
-// A page: texts one behind the other in fixed memory. Each method adds the whole of a text, or nothing
-// where it does not fit. A value's Display would promise its text only at Ok, and nothing says that it
-// answers Ok where there is room, so that a line that fits could be missing: these are methods.
+// The text of an answer: written in a buffer that is lent, at a place of it, or on a page, which is a buffer
+// of its own and the place in it. Each function adds the whole of a text, or nothing where it does not fit.
+// A value's Display would promise its text only at Ok, and nothing says that it answers Ok where there is
+// room, so that a line that fits could be missing: these are functions and methods.
 #![tactic(auto)]
+
+mod lent;
 
 ghost use Rattle.std.specs.Prelude.{◌≡◌, ◌∷◌, [], ◌++◌, ◌+◌, ◌-◌, ◌≤◌, ◌<◌, leb, length, take, drop};
 ghost use Rattle.text.specs.Page.{fresh_page, add_of};
@@ -9,6 +12,7 @@ ghost use Rattle.text.specs.Digits.{glyph_of, last_digits, places_of, decimal_of
 ghost use Rattle.text.specs.Seconds.{seconds_of};
 ghost use Rattle.text.specs.Fields.{numbered, in_hex, hex_on};
 
+pub use lent::{has_room, put, put_byte, put_decimal, put_hex, put_seconds};
 use std::fmt;
 use std::marker::Model;
 
@@ -59,18 +63,13 @@ impl<const N: usize> Page<N> {
     pub fn has_room(&self, count: usize) -> bool
         ensures { result ≡ leb (length self.now.text + count) self.now.room }
     {
-        count <= N - self.end
+        has_room(N, self.end, count)
     }
 
     pub fn put(&mut self, text: &[u8])
         ensures { self.new ≡ add_of self.old text.now }
     {
-        if text.len() <= N - self.end {
-            let end = self.end + text.len();
-            let bytes = &mut self.bytes[..];
-            bytes[self.end..end].copy_from_slice(text);
-            self.end = end;
-        }
+        self.end = put(&mut self.bytes, self.end, text);
     }
 
     pub fn put_byte(&mut self, byte: u8)
@@ -83,14 +82,14 @@ impl<const N: usize> Page<N> {
     pub fn put_decimal(&mut self, number: u64)
         ensures { self.new ≡ add_of self.old (decimal_of number) }
     {
-        self.put_digits(number, 10, places(number));
+        self.end = put_decimal(&mut self.bytes, self.end, number);
     }
 
     // The number's last `count` hexadecimal digits, in upper case.
     pub fn put_hex(&mut self, number: u64, count: usize)
         ensures { self.new ≡ add_of self.old (last_digits 16 count number) }
     {
-        self.put_digits(number, 16, count);
+        self.end = put_hex(&mut self.bytes, self.end, number, count);
     }
 
     // A number in decimal, and a comma.
@@ -125,29 +124,7 @@ impl<const N: usize> Page<N> {
     pub fn put_seconds(&mut self, samples: u32, rate: u32)
         ensures { self.new ≡ add_of self.old (seconds_of samples rate) }
     {
-        if rate == 0 {
-            return;
-        }
-        let parts = (samples as u64 * 10000 + rate as u64 / 2) / rate as u64;
-        let whole = parts / 10000;
-        if self.has_room(places(whole) + 5) {
-            self.put_decimal(whole);
-            self.put_byte(b'.');
-            self.put_digits(parts, 10, 4);
-        }
-    }
-
-    fn put_digits(&mut self, number: u64, base: u64, count: usize)
-        requires base_1 { 0 < base }
-        requires base_16 { base ≤ 16 }
-        ensures { self.new ≡ add_of self.old (last_digits base count number) }
-    {
-        if count <= N - self.end {
-            let end = self.end + count;
-            let bytes = &mut self.bytes[..];
-            spell(&mut bytes[self.end..end], number, base);
-            self.end = end;
-        }
+        self.end = put_seconds(&mut self.bytes, self.end, samples, rate);
     }
 }
 

@@ -1,12 +1,9 @@
--- `text::Page::put` meets its contract: the text stands behind what was there, or there is no room for it. Assumes nothing.
-use mathlib.Core.Path.{sym}
-use Rattle.text.proofs.Pages.{put-view, put-none}
+-- `text::Page::put` meets its contract: what `put` leaves of the page's buffer, up to the place, is shown. Assumes nothing.
+use Rattle.text.proofs.Texts.{shown, within}
 use Rattle.text.proofs.Page.put.Goals as goal
 
-pub returns-then-text-self : goal.returns-then-text-self
-returns-then-text-self g c =
-    rw (c.copy_from_slice.ensures.after, ← c.self.view_is) (put-view g.row.N c.self.inside.end c.self.inside.bytes c.args.text.now c.self.invariant c.self.told c.if-text-self.true)
+pub invariant_of-self : goal.invariant_of-self
+invariant_of-self g c = within g.row.N c.self.inside.end c.self.inside.bytes c.args.text.now c.put-self-inside.new.out c.put-self-inside.result c.self.invariant c.self.told c.put-self-inside.ensures
 
-pub returns-else-text-self : goal.returns-else-text-self
-returns-else-text-self g c =
-    rw (← c.self.view_is) (sym (put-none g.row.N c.self.inside.end c.self.inside.bytes c.args.text.now c.self.invariant c.self.told c.if-text-self.false))
+pub returns : goal.returns
+returns g c = rw (← c.self.view_is) (shown g.row.N c.self.inside.end c.self.inside.bytes c.args.text.now c.put-self-inside.new.out c.put-self-inside.result c.self.invariant c.self.told c.put-self-inside.ensures)

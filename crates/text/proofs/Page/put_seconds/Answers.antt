@@ -1,33 +1,10 @@
--- `text::Page::put_seconds` meets its contract: its three texts, for which there is room, are one. Assumes nothing.
-use Prim.Native.Nat.{◌/◌}
-use mathlib.Core.Path.{sym, ap, ◌∙◌}
-use native.Mathlib.Omega.{arith}
-use borrow.Author.Tests.{eq-eqb, ne_eqb, leb-true, leb-false}
-use Rattle.ascii.specs.Ascii.{ascii}
-use Rattle.text.specs.Digits.{last_digits}
-use Rattle.text.specs.Seconds.{parts_of, seconds_of, seconds_if}
-use Rattle.text.specs.Page.{Page, add_of}
-use Rattle.text.proofs.Pages.{few-places, add_nothing, seconds-whole, seconds-none}
+-- `text::Page::put_seconds` meets its contract: what `put_seconds` leaves of the page's buffer, up to the place, is shown. Assumes nothing.
+use Rattle.text.specs.Seconds.{seconds_of}
+use Rattle.text.proofs.Texts.{shown, within}
 use Rattle.text.proofs.Page.put_seconds.Goals as goal
 
-pub returns-then-rate-eq0 : goal.returns-then-rate-eq0
-unfolding seconds_of seconds_if
-returns-then-rate-eq0 g c = rw (eq-eqb _ _ c.if-rate-eq0.true) (sym (add_nothing c.args.self.now))
+pub invariant_of-self : goal.invariant_of-self
+invariant_of-self g c = within g.row.N c.self.inside.end c.self.inside.bytes (seconds_of c.args.samples c.args.rate) c.put_seconds-self-inside.new.out c.put_seconds-self-inside.result c.self.invariant c.self.told c.put_seconds-self-inside.ensures
 
-pub overflow_add-places : goal.overflow_add-places
-unfolding parts_of
-overflow_add-places g c = let a = c.args in omega (arith, c.places.ensures, few-places (parts_of a.samples a.rate / 10000))
-
-pub returns-then-has_room : goal.returns-then-has_room
-unfolding parts_of seconds_of
-returns-then-has_room g c = let a = c.args in
-    rw (ne_eqb _ _ c.if-rate-eq0.false)
-    (c.put_digits.ensures
-    ∙ ap (λ (p : Page). add_of p (last_digits 10 4 (parts_of a.samples a.rate))) (c.put_byte.ensures ∙ ap (λ (p : Page). add_of p (ascii ".")) c.put_decimal.ensures)
-    ∙ seconds-whole a.self.now (parts_of a.samples a.rate) (rw (← c.places.ensures) (leb-true _ _ (sym c.has_room.ensures ∙ c.if-has_room.true))))
-
-pub returns-else-has_room : goal.returns-else-has_room
-unfolding parts_of seconds_of
-returns-else-has_room g c = let a = c.args in
-    rw (ne_eqb _ _ c.if-rate-eq0.false)
-    (sym (seconds-none a.self.now (parts_of a.samples a.rate) (rw (← c.places.ensures) (leb-false _ _ (sym c.has_room.ensures ∙ c.if-has_room.false)))))
+pub returns : goal.returns
+returns g c = rw (← c.self.view_is) (shown g.row.N c.self.inside.end c.self.inside.bytes (seconds_of c.args.samples c.args.rate) c.put_seconds-self-inside.new.out c.put_seconds-self-inside.result c.self.invariant c.self.told c.put_seconds-self-inside.ensures)
