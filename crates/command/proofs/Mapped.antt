@@ -1,12 +1,18 @@
--- A list whose every element is that of another, mapped, is the other mapped. Assumes nothing.
-use Prim.Native.Nat.{ℕ, ◌<◌}
+-- A list mapped in place, one element a turn: what is done, followed by what is to come mapped, is the whole mapped.
+-- Assumes nothing.
+use Prim.Native.Nat.{ℕ, ◌+◌, ◌<◌, ◌≤◌}
+use native.Mathlib.Numerals.{add-one}
 use native.Mathlib.Omega.{arith}
-use mathlib.Core.Path.{◌≡◌, sym, ◌∙◌}
-use mathlib.Core.List.{List, map}
-use lib.ListN.{length, get_or, length-map}
-use Rattle.std.proofs.lemmas.List.{ext_get_or, get_or-map}
+use mathlib.Core.Path.{◌≡◌}
+use mathlib.Core.List.{List, ◌++◌, map, append_assoc, append-nil}
+use lib.ListN.{length, take, drop, set, get_or, drop_of_length-le}
+use lib.Seq.{take-suc-set, drop-set-lt, drop-cons, take_all}
 
-pub mapped : (f : ℕ → ℕ) (xs ys : List ℕ) → length ys ≡ length xs → ((i : ℕ) → i < length xs → get_or ys i 0 ≡ f (get_or xs i 0)) → ys ≡ map f xs
-mapped f xs ys same each =
-    ext_get_or 0 ys (map f xs) (same ∙ sym (length-map xs f))
-    (λ i below. let within : i < length xs = omega arith in each i within ∙ sym (get_or-map f xs i 0 0 within))
+module _ (f : ℕ → ℕ) (xs : List ℕ) where
+  pub turn : (i : ℕ) → i < length xs → take (i + 1) (set xs i (f (get_or xs i 0))) ++ map f (drop (i + 1) (set xs i (f (get_or xs i 0)))) ≡ take i xs ++ map f (drop i xs)
+  turn i l =
+      let k : i < i + 1 = omega arith in
+      rw (drop-set-lt (i + 1) xs i _ k, add-one, take-suc-set xs i _ l, drop-cons xs i 0 l, append_assoc)
+
+  pub done : (i : ℕ) → length xs ≤ i → take i xs ++ map f (drop i xs) ≡ xs
+  done i l = rw (drop_of_length-le xs l, take_all i xs l, append-nil)

@@ -73,7 +73,11 @@ impl Line {
     pub fn to_uppercase(self) -> Self
         ensures { result ≡ uppercased self }
     {
-        let bytes = self.bytes.map(ascii::uppercase);
+        // In place: of an array's `map` the compiler makes 80 single turns, and of this loop a few of many bytes each.
+        let mut bytes = self.bytes;
+        for byte in &mut bytes {
+            *byte = ascii::uppercase(*byte);
+        }
         Line { bytes, ..self }
     }
 

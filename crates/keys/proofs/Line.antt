@@ -4,7 +4,7 @@ use Prim.Native.Nat.{ℕ, suc, ◌+◌, ◌-◌, ◌<◌, ◌≤◌}
 use native.Mathlib.Numerals.{add-one}
 use native.Mathlib.Omega.{arith}
 use mathlib.Core.Path.{◌≡◌, refl, sym, ap, ◌∙◌}
-use mathlib.Core.Bool.{Bool, true, false, cond}
+use mathlib.Core.Bool.{Bool, true, false, cond, ◌&&◌, and-true}
 use mathlib.Core.List.{List, [], ◌∷◌, ◌++◌, map, append-nil, append_assoc, map-append}
 use lib.ListN.{length, get_or, take, set, replicate, length-append, length-take, length-map}
 use lib.Seq.{take-suc, take_all, take-append-le, set_at, take_at}
@@ -12,6 +12,7 @@ use lib.Dec.{ltb}
 use borrow.Author.Tests.{ltb-true, ltb-false}
 use Rattle.std.specs.List.{filter, list_all}
 use Rattle.std.proofs.lemmas.List.Elements.{filter-append}
+use Rattle.std.proofs.lemmas.List.Folds.{list_all-append}
 use Rattle.std.proofs.lemmas.List.Sums.{length-filter, count_by-le-length}
 use Rattle.ascii.specs.Upper.{upper}
 use Rattle.keys.specs.Keys.{is_key, keys_of, digits_of, all_keys, padded, held, with_digit, dialled_of}
@@ -25,6 +26,11 @@ all-keys (b ∷ bs) = grind (arith, all-keys bs)
 pub all_digits_lem : (line : List ℕ) → all_keys (digits_of line) ≡ true
 unfolding digits_of keys_of all_keys
 all_digits_lem line = all-keys (map upper line)
+
+-- ---- byte by byte
+pub all_more : (ds : List ℕ) (i : ℕ) → i < length ds → all_keys (take i ds) && is_key (get_or ds i 0) ≡ all_keys (take (i + 1) ds)
+unfolding all_keys
+all_more ds i h = rw (add-one, take-suc ds i 0 h, list_all-append, and-true) refl
 
 pub digits-fewer : (line : List ℕ) → length (digits_of line) ≤ length line
 unfolding digits_of keys_of

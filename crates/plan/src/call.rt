@@ -15,20 +15,28 @@ pub struct Call {
 
 impl Call {
     ghost use Rattle.plan.specs.Plan.{plan_cause};
-    ghost use Rattle.plan.specs.Call.{call_digits, IsCallOf};
+    ghost use Rattle.plan.specs.Call.{call_digits, IsCallOf, IsRateOf};
     ghost use Rattle.std.specs.Prelude.{take};
     ghost use Rattle.schedule.specs.Length.{stage_lengths};
 
-    // The call of the digits that a dial line would have of the bytes. Declined are a bad rate, and more bytes than a line has, keys or not.
+    // The call of the digits that a dial line would have of the bytes.
     pub fn new(bytes: &[u8], rate: u32) -> Result<Call, Refusal>
         ensures { MatchResult result (λ call. IsCallOf call bytes.now rate) (λ refusal. plan_cause (length bytes.now) rate ≡ Err refusal) }
     {
-        let rate = Rate::new(rate).ok_or(Refusal::Rate)?;
-        if bytes.len() as u64 > schedule::MAX_DIGITS {
-            return Err(Refusal::Digits);
-        }
+        let rate = Call::rate_of(bytes.len(), rate)?;
         let digits = keys::dialled(bytes);
         Ok(Call { digits, rate })
+    }
+
+    // The rate of a call of so many bytes, of which none is read. Declined are a bad rate, and more bytes than a line has, keys or not.
+    pub(crate) fn rate_of(count: usize, rate: u32) -> Result<Rate, Refusal>
+        ensures { MatchResult result (λ accepted. IsRateOf accepted count rate) (λ refusal. plan_cause count rate ≡ Err refusal) }
+    {
+        let rate = Rate::new(rate).ok_or(Refusal::Rate)?;
+        if count as u64 > schedule::MAX_DIGITS {
+            return Err(Refusal::Digits);
+        }
+        Ok(rate)
     }
 
     pub fn digits(&self) -> &[u8]

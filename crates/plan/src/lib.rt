@@ -86,7 +86,7 @@ pub fn planned(digits: &[u8], rate: u32) -> Result<Plan, Refusal>
 pub fn plan_refusal(digits: &[u8], rate: u32) -> Result<(), Refusal>
     ensures { result ≡ plan_cause (length digits.now) rate }
 {
-    let _ = Call::new(digits, rate)?;
+    let _ = Call::rate_of(digits.len(), rate)?;
     Ok(())
 }
 

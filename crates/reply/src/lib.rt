@@ -67,16 +67,14 @@ impl Code {
         ensures value { result ≡ put_length (text_of (number_of self) s12) (length out.old) }
         ensures out_after { out.new ≡ put (text_of (number_of self) s12) out.old }
     {
-        let digits = digits(s12);
-        let text: &[u8] = match self {
-            Code::Ok => b"OK",
-            Code::Connect => b"CONNECT 300",
-            Code::NoCarrier => b"NO CARRIER",
-            Code::Error => b"ERROR",
-            Code::Identification => b"modem-core Bell 103 v1.0.0",
-            Code::S12 => &digits,
-        };
-        ascii::put_front(text, out)
+        match self {
+            Code::Ok => ascii::put_front(b"OK", out),
+            Code::Connect => ascii::put_front(b"CONNECT 300", out),
+            Code::NoCarrier => ascii::put_front(b"NO CARRIER", out),
+            Code::Error => ascii::put_front(b"ERROR", out),
+            Code::Identification => ascii::put_front(b"modem-core Bell 103 v1.0.0", out),
+            Code::S12 => ascii::put_front(&digits(s12), out),
+        }
     }
 }
 

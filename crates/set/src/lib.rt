@@ -203,6 +203,8 @@ impl Set {
     }
 
     // The processor moved on, and what it asks of the call control done. A dial line has its digits after ATDT.
+    // In each caller, so that no set is copied for a call.
+    #[inline(always)]
     fn after(self, outcome: Outcome, line: Line) -> Set
         ensures { result ≡ obeyed self outcome (drop 4 (command_line.typed line)) }
     {
