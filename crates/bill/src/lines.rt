@@ -7,7 +7,7 @@ ghost use Rattle.bill.specs.Lines.{largest, line_of, next_of, answer_of, asked_o
 use console::fields::Fields;
 
 // What the bytes of a line so far come to.
-#[derive(Drop)]
+#[derive(Clone, Copy)]
 pub struct Line {
     fields: Fields<2>,
 }

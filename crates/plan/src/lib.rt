@@ -117,5 +117,6 @@ pub fn total_samples(digits: &[u8], rate: u32) -> u32
     ensures has_length { min_rate ≤ rate → rate ≤ max_rate → length digits.now ≤ max_digits → HasLength (digits_of digits.now) rate result }
     ensures bounds_of { min_rate ≤ rate → rate ≤ max_rate → length digits.now ≤ max_digits → BoundsOf rate (length (digits_of digits.now)) result }
 {
-    samples_of(digits, rate).iter().sum()
+    let counts = samples_of(digits, rate);
+    counts.iter().sum()
 }

@@ -8,7 +8,7 @@ use console::fields;
 use console::fields::Fields;
 
 // What the bytes of a line so far come to.
-#[derive(Drop)]
+#[derive(Clone, Copy)]
 pub struct Line {
     fields: Fields<4>,
 }
